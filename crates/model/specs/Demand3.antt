@@ -1,0 +1,173 @@
+-- Demand 3: whoever is not granted a read of a register learns nothing of its value, over any list of calls. First what
+-- the words mean, then the claim for every list of calls as the model runs it, then the claim for whatever functions hand
+-- back that keep their promises.
+use mathlib.Core.Path.{_≡_}
+use mathlib.Core.Bool.{Bool, true, false, cond, _&&_, _||_}
+use mathlib.Core.List.{List, [], _∷_, _++_, map}
+use Prim.Native.Nat.{ℕ}
+use lib.ListN.{length, take, drop}
+use lib.Dec.{eqb}
+use Rattle.model.specs.declared.Name.{Name}
+use Rattle.model.specs.declared.Register.{Register}
+use Rattle.model.specs.Names.{sameName, given, withValue}
+use Rattle.model.specs.State.{Entry, Store, Body, Model, withBody, withStore}
+use Rattle.model.specs.Objects.{profileNamed, Service, get, action, Request}
+use Rattle.model.specs.Calls.{Call, frame, giveRegisters, setValue, setColumns, setPeriod, tick, setP5, powerUp, Outcome, Decision, answer, serve, Protocol, step, trace}
+
+-- "Registers are chosen by name, whenever given."
+abbrev pub Chosen : Type 0
+Chosen = Name → Bool
+
+-- Alike.
+
+-- a value, or 0 in its stead
+abbrev pub hide : Bool → ℕ → ℕ
+hide true v = 0
+hide false v = v
+
+abbrev pub hideRegister : Chosen → Register → Register
+hideRegister ch r = withValue (hide (ch (r .name)) (r .value)) r
+
+-- "a cell is recorded from the register that its column names"; a cell without a column is recorded from none
+abbrev pub hideCells : Chosen → List Name → List ℕ → List ℕ
+hideCells ch cs [] = []
+hideCells ch [] (v ∷ vs) = v ∷ vs
+hideCells ch (c ∷ cs) (v ∷ vs) = hide (ch c) v ∷ hideCells ch cs vs
+
+abbrev pub hideEntry : Chosen → List Name → Entry → Entry
+hideEntry ch cs r = record { number = r .number; clock = r .clock; cells = hideCells ch cs (r .cells) }
+
+abbrev pub hideStore : Chosen → Store → Store
+hideStore ch s =
+    record {
+      registers = map (hideRegister ch) (s .registers);
+      columns = s .columns;
+      rows = map (hideEntry ch (s .columns)) (s .rows);
+    }
+
+-- the meter with 0 for the values of the chosen registers and the cells recorded from them
+abbrev pub hidden : Chosen → Model → Model
+hidden ch m = withBody (withStore (hideStore ch (m .body .store)) (m .body)) m
+
+-- "alike": equal in all that a meter holds, but for those values and cells
+abbrev pub Alike : Chosen → Model → Model → Type 0
+Alike ch m₁ m₂ = hidden ch m₁ ≡ hidden ch m₂
+
+-- a call with 0 for the values that it gives or sets for chosen registers
+abbrev pub hiddenCall : Chosen → Call → Call
+hiddenCall ch (frame a) = frame a
+hiddenCall ch (giveRegisters rs) = giveRegisters (map (hideRegister ch) rs)
+hiddenCall ch (setValue n v) = setValue n (hide (ch n) v)
+hiddenCall ch (setColumns cs) = setColumns cs
+hiddenCall ch (setPeriod d) = setPeriod d
+hiddenCall ch (tick t) = tick t
+hiddenCall ch (setP5 f) = setP5 f
+hiddenCall ch powerUp = powerUp
+
+-- "arguments are equal in both runs but for values given or set for chosen registers"
+abbrev pub AlikeCalls : Chosen → List Call → List Call → Type 0
+AlikeCalls ch cs₁ cs₂ = map (hiddenCall ch) cs₁ ≡ map (hiddenCall ch) cs₂
+
+-- Granted reads.
+
+abbrev pub anyChosen : Chosen → List Name → Bool
+anyChosen ch [] = false
+anyChosen ch (c ∷ cs) = ch c || anyChosen ch cs
+
+-- "a value or profile is read by a GET of attribute 2": of a chosen register that is given, or of the profile while a
+-- column names a chosen one. No object of the meter's own is a register.
+abbrev pub asksChosen : Chosen → Name → Service → Store → Bool
+asksChosen ch n (get a s) st =
+    eqb a 2 && cond (sameName profileNamed n) (anyChosen ch (st .columns)) (given n (st .registers) && ch n)
+asksChosen ch n (action k v) st = false
+
+abbrev pub decidesRead : Chosen → Decision → Store → Bool
+decidesRead ch (answer s) st = false
+decidesRead ch (serve q w l) st = asksChosen ch (q .name) (q .service) st
+
+abbrev pub reads : Protocol → Chosen → Call → Model → Bool
+reads p ch (frame a) m = decidesRead ch ((p .decide) (m .line) a) (m .body .store)
+reads p ch (giveRegisters rs) m = false
+reads p ch (setValue n v) m = false
+reads p ch (setColumns cs) m = false
+reads p ch (setPeriod d) m = false
+reads p ch (tick t) m = false
+reads p ch (setP5 f) m = false
+reads p ch powerUp m = false
+
+-- "a read is granted when its frame call answers 0"
+abbrev pub GrantedRead : Protocol → Chosen → Call → Model → Outcome → Type 0
+GrantedRead p ch c m o = (reads p ch c m ≡ true) × (o .number ≡ 0)
+
+-- The claim.
+
+-- One call in each of two runs: the same number; what goes out equal in length and, but for a granted read, equal; the
+-- meters alike again.
+pub record SameOutcome (p : Protocol) (ch : Chosen) (c : Call) (m : Model) (o₁ o₂ : Outcome) : Type 0 where
+  pub number : o₁ .number ≡ o₂ .number
+  pub size : length (o₁ .sent) ≡ length (o₂ .sent)
+  pub sent : (GrantedRead p ch c m o₁ → ⊥) → o₁ .sent ≡ o₂ .sent
+  pub next : Alike ch (o₁ .next) (o₂ .next)
+
+-- call by call; the meter of a call is the one that the call before it handed back
+abbrev pub SameOutcomes : Protocol → Chosen → List Call → Model → List Outcome → List Outcome → Type 0
+SameOutcomes p ch [] m [] [] = Unit {0}
+SameOutcomes p ch [] m [] (o₂ ∷ os₂) = ⊥
+SameOutcomes p ch [] m (o₁ ∷ os₁) os₂ = ⊥
+SameOutcomes p ch (c ∷ cs) m [] os₂ = ⊥
+SameOutcomes p ch (c ∷ cs) m (o₁ ∷ os₁) [] = ⊥
+SameOutcomes p ch (c ∷ cs) m (o₁ ∷ os₁) (o₂ ∷ os₂) = SameOutcome p ch c m o₁ o₂ × SameOutcomes p ch cs (o₁ .next) os₁ os₂
+
+-- "Choose any set of registers. Take any two meters, sound or not, alike but for these. Give both the same list of calls."
+abbrev pub Demand3 : Protocol → Type 0
+Demand3 p =
+    (ch : Chosen) (m₁ m₂ : Model) (cs₁ cs₂ : List Call)
+    → Alike ch m₁ m₂
+    → AlikeCalls ch cs₁ cs₂
+    → SameOutcomes p ch cs₁ m₁ (trace p cs₁ m₁) (trace p cs₂ m₂)
+
+-- The same of functions on any struct of a meter and its view.
+
+module _ (Meter : Type 0) (view : Meter → Model) where
+  -- What a call hands back: a number, how many bytes of the reply room went out, the meter; and what the reply room held
+  -- before and holds after.
+  pub record Handed : Type 0 where
+    pub number : ℕ
+    pub count : ℕ
+    pub meter : Meter
+    pub before : List ℕ
+    pub after : List ℕ
+
+  -- What is handed back is what the outcome says; "reply bytes after the frame, or all of them where nothing goes out,
+  -- keep their values".
+  pub record Gave (o : Outcome) (h : Handed) : Type 0 where
+    pub number : h .number ≡ o .number
+    pub count : h .count ≡ length (o .sent)
+    pub meter : view (h .meter) ≡ o .next
+    pub room : h .after ≡ o .sent ++ drop (length (o .sent)) (h .before)
+
+  -- what someone sees of it: the number, the bytes that went out, and what the meter then holds
+  abbrev pub seen : Handed → Outcome
+  seen h = record { number = h .number; sent = take (h .count) (h .after); next = view (h .meter) }
+
+module _ (Meter : Type 0) (view : Meter → Model) (p : Protocol) where
+  -- what the function behind a call promises of what it hands back: this is its `ensures`
+  abbrev pub Promised : Call → Meter → Handed Meter view → Type 0
+  Promised c m h = Gave Meter view (step p c (view m)) h
+
+  -- a list of calls is run: each call gets the meter that the last one handed back
+  abbrev pub Run : Meter → List Call → List (Handed Meter view) → Type 0
+  Run m [] [] = Unit {0}
+  Run m [] (h ∷ hs) = ⊥
+  Run m (c ∷ cs) [] = ⊥
+  Run m (c ∷ cs) (h ∷ hs) = Promised c m h × Run (h .meter) cs hs
+
+  -- whatever the two runs hand back, and whatever their reply rooms held before
+  abbrev pub RunDemand3 : Type 0
+  RunDemand3 =
+      (ch : Chosen) (m₁ m₂ : Meter) (cs₁ cs₂ : List Call) (hs₁ hs₂ : List (Handed Meter view))
+      → Alike ch (view m₁) (view m₂)
+      → AlikeCalls ch cs₁ cs₂
+      → Run m₁ cs₁ hs₁
+      → Run m₂ cs₂ hs₂
+      → SameOutcomes p ch cs₁ (view m₁) (map (seen Meter view) hs₁) (map (seen Meter view) hs₂)

@@ -1,0 +1,10 @@
+pub mod Limits
+pub mod Names
+pub mod Clocks
+pub mod Periods
+pub mod Services
+pub mod State
+pub mod Soundness
+pub mod Objects
+pub mod Calls
+pub mod Demand3

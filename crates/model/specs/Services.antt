@@ -1,0 +1,26 @@
+-- The services of an association, three bytes of bits (document 01, "The association").
+use mathlib.Core.Bool.{Bool, true, false, _&&_}
+use mathlib.Core.List.{List, [], _∷_}
+use Prim.Native.Nat.{ℕ}
+use lib.Bits.{bitAnd}
+use lib.Dec.{eqb}
+use Rattle.model.specs.declared.Client.{Client}
+use Rattle.model.specs.declared.Client.the-variants.{Verification, Han}
+
+-- "V is offered 00 00 14 and H 00 00 15"
+abbrev pub offered : Client → List ℕ
+offered Verification = 0x00 ∷ 0x00 ∷ 0x14 ∷ []
+offered Han = 0x00 ∷ 0x00 ∷ 0x15 ∷ []
+
+-- "agreed: proposed and offered", bit by bit
+unfoldable pub common : List ℕ → List ℕ → List ℕ
+common [] os = []
+common (a ∷ xs) [] = []
+common (a ∷ xs) (o ∷ os) = bitAnd a o ∷ common xs os
+
+-- the first services lie within the second: each bit that is set there is set here
+unfoldable pub within : List ℕ → List ℕ → Bool
+within [] [] = true
+within [] (o ∷ os) = false
+within (a ∷ xs) [] = false
+within (a ∷ xs) (o ∷ os) = eqb (bitAnd a o) a && within xs os

@@ -1,0 +1,92 @@
+-- "A state is sound when ..": the tests of document 01, one list of them in its order, and the state that passes all.
+use mathlib.Core.Bool.{Bool, true, false, not, _&&_, _||_}
+use mathlib.Core.List.{List, [], _∷_, map}
+use Prim.Native.Nat.{ℕ}
+use lib.ListN.{length}
+use lib.Dec.{eqb, leb}
+use Rattle.model.specs.declared.Name.{Name}
+use Rattle.model.specs.declared.Client.{Client}
+use Rattle.model.specs.declared.Client.the-variants.{Verification, Han}
+use Rattle.model.specs.declared.Register.{Register}
+use Rattle.model.specs.Limits.{maxRows, maxRegisters, maxColumns}
+use Rattle.model.specs.Names.{every, distinct, allAmong, noneAmong, nameOf}
+use Rattle.model.specs.Clocks.{validClock}
+use Rattle.model.specs.Periods.{permittedPeriod}
+use Rattle.model.specs.Services.{offered, within}
+use Rattle.model.specs.State.{Association, none, pending, associated, Peer, Line, Entry, Model}
+use Rattle.model.specs.Objects.{ownNames}
+
+-- What the owner's calls accept.
+
+-- registers: "16 at most, names distinct, and none that the meter's own objects bear"
+unfoldable pub acceptedRegisters : List Register → Bool
+acceptedRegisters rs =
+    leb (length rs) maxRegisters && distinct (map nameOf rs) && noneAmong ownNames (map nameOf rs)
+
+-- columns: "given registers, none twice, 16 at most"
+unfoldable pub acceptedColumns : List Register → List Name → Bool
+acceptedColumns rs cs = allAmong (map nameOf rs) cs && distinct cs && leb (length cs) maxColumns
+
+-- Associations.
+
+-- the kinds that a client may have: V none or associated; H none, pending or associated
+abbrev pub knownKind : Client → Association → Bool
+knownKind Verification (pending a k c s) = false
+knownKind Verification none = true
+knownKind Verification (associated a k) = true
+knownKind Han a = true
+
+abbrev pub isNone : Association → Bool
+isNone none = true
+isNone (pending a k c s) = false
+isNone (associated a k) = false
+
+-- no association stands on a link that is down
+abbrev pub onLink : Peer → Bool
+onLink p = p .up || isNone (p .association)
+
+-- the agreed services lie within those offered; an association that does not stand has none
+abbrev pub agreedWithin : List ℕ → Association → Bool
+agreedWithin os none = true
+agreedWithin os (pending a k c s) = within a os
+agreedWithin os (associated a k) = within a os
+
+-- The tests.
+
+pub data SoundnessTest : Type 0 where
+  registerList columnList periodPermitted clockValid rowClocksValid rowCount rowCells : SoundnessTest
+  associationKind associationOnLink agreedServices : SoundnessTest
+
+-- the state passes the test
+abbrev pub passes : SoundnessTest → Model → Bool
+passes registerList m = acceptedRegisters (m .body .store .registers)
+passes columnList m = acceptedColumns (m .body .store .registers) (m .body .store .columns)
+passes periodPermitted m = permittedPeriod (m .body .period)
+passes clockValid m = validClock (m .body .clock)
+passes rowClocksValid m = every (λ i r. validClock (r .clock)) 0 (m .body .store .rows)
+passes rowCount m = leb (length (m .body .store .rows)) maxRows
+passes rowCells m = every (λ i r. eqb (length (r .cells)) (length (m .body .store .columns))) 0 (m .body .store .rows)
+passes associationKind m = knownKind Verification (m .line .verification .association) && knownKind Han (m .line .han .peer .association)
+passes associationOnLink m = onLink (m .line .verification) && onLink (m .line .han .peer)
+passes agreedServices m =
+    agreedWithin (offered Verification) (m .line .verification .association)
+    && agreedWithin (offered Han) (m .line .han .peer .association)
+
+-- in the order of document 01
+abbrev pub soundnessTests : List SoundnessTest
+soundnessTests =
+    registerList
+    ∷ columnList
+    ∷ periodPermitted
+    ∷ clockValid
+    ∷ rowClocksValid
+    ∷ rowCount
+    ∷ rowCells
+    ∷ associationKind
+    ∷ associationOnLink
+    ∷ agreedServices
+    ∷ []
+
+-- "sound"
+unfoldable pub sound : Model → Bool
+sound m = every (λ i t. passes t m) 0 soundnessTests

@@ -1,0 +1,109 @@
+-- What a meter holds by document 01: the line, which decides what a frame comes to and never sees a register's value, and
+-- the body, which answers an opened request and never sees a key. Lists hold exactly what is there.
+use mathlib.Core.Bool.{Bool, false}
+use mathlib.Core.List.{List, [], _∷_}
+use Prim.Native.Nat.{ℕ}
+use Rattle.model.specs.declared.Name.{Name}
+use Rattle.model.specs.declared.Clock.{Clock}
+use Rattle.model.specs.declared.Register.{Register}
+use Rattle.model.specs.declared.Counters.{Counters}
+
+-- The line.
+
+-- An association carries what it holds, so that one that has ended holds nothing. The dedicated key of a client without
+-- ciphering is the empty list.
+pub data Association : Type 0 where
+  none : Association
+  -- agreed services, dedicated key, the client's challenge, the meter's challenge
+  pending : (agreed key client meter : List ℕ) → Association
+  -- agreed services, dedicated key
+  associated : (agreed key : List ℕ) → Association
+
+-- A client as the meter knows it: its title, whether its link is up, its association.
+pub record Peer : Type 0 where
+  pub title : List ℕ
+  pub up : Bool
+  pub association : Association
+
+-- A client that ciphers has counters besides.
+pub record CipheringPeer : Type 0 where
+  pub peer : Peer
+  pub counters : Counters
+
+-- The meter's title, "V", "H", and the "P5 flag".
+pub record Line : Type 0 where
+  pub title : List ℕ
+  pub verification : Peer
+  pub han : CipheringPeer
+  pub p5 : Bool
+
+-- The body.
+
+-- A "row" of the profile: its record number, its clock, a "cell" for each column.
+pub record Entry : Type 0 where
+  pub number : ℕ
+  pub clock : Clock
+  pub cells : List ℕ
+
+-- What register values flow through: the registers, the columns by the names of their registers, the rows, newest first.
+pub record Store : Type 0 where
+  pub registers : List Register
+  pub columns : List Name
+  pub rows : List Entry
+
+-- The device name, the clock, the capture period, the record number, and the store.
+pub record Body : Type 0 where
+  pub device : List ℕ
+  pub clock : Clock
+  pub period : ℕ
+  pub number : ℕ
+  pub store : Store
+
+pub record Model : Type 0 where
+  pub line : Line
+  pub body : Body
+
+-- A part replaced, all else as it was.
+
+abbrev pub withLine : Line → Model → Model
+withLine l m = record { line = l; body = m .body }
+
+abbrev pub withBody : Body → Model → Model
+withBody b m = record { line = m .line; body = b }
+
+abbrev pub withStore : Store → Body → Body
+withStore s b = record { device = b .device; clock = b .clock; period = b .period; number = b .number; store = s }
+
+abbrev pub withClock : Clock → Body → Body
+withClock t b = record { device = b .device; clock = t; period = b .period; number = b .number; store = b .store }
+
+abbrev pub withPeriod : ℕ → Body → Body
+withPeriod p b = record { device = b .device; clock = b .clock; period = p; number = b .number; store = b .store }
+
+abbrev pub withNumber : ℕ → Body → Body
+withNumber n b = record { device = b .device; clock = b .clock; period = b .period; number = n; store = b .store }
+
+abbrev pub withRows : List Entry → Store → Store
+withRows rs s = record { registers = s .registers; columns = s .columns; rows = rs }
+
+abbrev pub withP5 : Bool → Line → Line
+withP5 f l = record { title = l .title; verification = l .verification; han = l .han; p5 = f }
+
+-- The new meter, its name and titles taken as given.
+
+abbrev pub newPeer : List ℕ → Peer
+newPeer t = record { title = t; up = false; association = none }
+
+abbrev pub noCounters : Counters
+noCounters = record { accepted = 0; sent = 0 }
+
+abbrev pub newClock : Clock
+newClock =
+    record { bytes = 0x07 ∷ 0xE1 ∷ 0x01 ∷ 0x01 ∷ 0xFF ∷ 0x00 ∷ 0x00 ∷ 0x00 ∷ 0xFF ∷ 0x80 ∷ 0x00 ∷ 0x00 ∷ [] }
+
+unfoldable pub newMeter : (device title verification han : List ℕ) → Model
+newMeter d t v h =
+    record {
+      line = record { title = t; verification = newPeer v; han = record { peer = newPeer h; counters = noCounters }; p5 = false };
+      body = record { device = d; clock = newClock; period = 60; number = 0; store = record { registers = []; columns = []; rows = [] } };
+    }

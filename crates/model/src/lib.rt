@@ -1,0 +1,33 @@
+// The types that the model of a meter shares with the code: the clients, and structs without counts. There are no
+// functions: what a meter holds and does is defined in specs/, and demand 3 is proved over it in proofs/.
+
+// The clients of the link: "V" and "H" of document 01.
+pub enum Client {
+    Verification,
+    Han,
+}
+
+// A logical name: the "name" of an object or a register.
+pub struct Name {
+    pub bytes: [u8; 6],
+}
+
+// A clock: year (two bytes), month, day, day of week, hour, minute, second, hundredths, deviation (two bytes), status.
+pub struct Clock {
+    pub bytes: [u8; 12],
+}
+
+// A register as it is given: `readable` is its "H right".
+pub struct Register {
+    pub name: Name,
+    pub readable: bool,
+    pub scaler: u8,
+    pub unit: u8,
+    pub value: u32,
+}
+
+// The invocation counters of a ciphering client, the "counter pair": the last one accepted from it, and the meter's own, last sent.
+pub struct Counters {
+    pub accepted: u32,
+    pub sent: u32,
+}
