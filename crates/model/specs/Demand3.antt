@@ -45,9 +45,12 @@ hideStore ch s =
       rows = map (hideEntry ch (s .columns)) (s .rows);
     }
 
+abbrev pub hideBody : Chosen → Body → Body
+hideBody ch b = withStore (hideStore ch (b .store)) b
+
 -- the meter with 0 for the values of the chosen registers and the cells recorded from them
 abbrev pub hidden : Chosen → Model → Model
-hidden ch m = withBody (withStore (hideStore ch (m .body .store)) (m .body)) m
+hidden ch m = withBody (hideBody ch (m .body)) m
 
 -- "alike": equal in all that a meter holds, but for those values and cells
 abbrev pub Alike : Chosen → Model → Model → Type 0
