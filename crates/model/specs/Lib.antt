@@ -8,3 +8,5 @@ pub mod Soundness
 pub mod Objects
 pub mod Calls
 pub mod Demand3
+pub mod Honesty
+pub mod Archive

@@ -51,6 +51,19 @@ agreedWithin os none = true
 agreedWithin os (pending a k c s) = within a os
 agreedWithin os (associated a k) = within a os
 
+-- the tests on the line, of "V" and of "H"
+
+abbrev pub kindsKnown : Line → Bool
+kindsKnown l = knownKind Verification (l .verification .association) && knownKind Han (l .han .peer .association)
+
+abbrev pub linksStand : Line → Bool
+linksStand l = onLink (l .verification) && onLink (l .han .peer)
+
+abbrev pub servicesOffered : Line → Bool
+servicesOffered l =
+    agreedWithin (offered Verification) (l .verification .association)
+    && agreedWithin (offered Han) (l .han .peer .association)
+
 -- The tests.
 
 pub data SoundnessTest : Type 0 where
@@ -66,11 +79,9 @@ passes clockValid m = validClock (m .body .clock)
 passes rowClocksValid m = every (λ i r. validClock (r .clock)) 0 (m .body .store .rows)
 passes rowCount m = leb (length (m .body .store .rows)) maxRows
 passes rowCells m = every (λ i r. eqb (length (r .cells)) (length (m .body .store .columns))) 0 (m .body .store .rows)
-passes associationKind m = knownKind Verification (m .line .verification .association) && knownKind Han (m .line .han .peer .association)
-passes associationOnLink m = onLink (m .line .verification) && onLink (m .line .han .peer)
-passes agreedServices m =
-    agreedWithin (offered Verification) (m .line .verification .association)
-    && agreedWithin (offered Han) (m .line .han .peer .association)
+passes associationKind m = kindsKnown (m .line)
+passes associationOnLink m = linksStand (m .line)
+passes agreedServices m = servicesOffered (m .line)
 
 -- in the order of document 01
 abbrev pub soundnessTests : List SoundnessTest

@@ -1,0 +1,121 @@
+-- What the keeper of the archive asked for (demands 1 and 2, and document 01, "What the contracts owe the archive"): rows
+-- are added and kept, sound meters stay sound, and each call has its own numbers. Proved in proofs/Archive.
+use mathlib.Core.Path.{_≡_}
+use mathlib.Core.Bool.{Bool, true, false, _&&_}
+use mathlib.Core.List.{List, [], _∷_}
+use Prim.Native.Nat.{ℕ, _-_, _<_}
+use lib.ListN.{length, take}
+use Rattle.model.specs.declared.Name.{Name}
+use Rattle.model.specs.declared.Clock.{Clock}
+use Rattle.model.specs.Limits.{maxRows}
+use Rattle.model.specs.Names.{sameName}
+use Rattle.model.specs.Clocks.{validClock}
+use Rattle.model.specs.Periods.{listed, captureDue}
+use Rattle.model.specs.State.{Line, Entry, Body, Model, newMeter}
+use Rattle.model.specs.Soundness.{kindsKnown, linksStand, servicesOffered, sound}
+use Rattle.model.specs.Objects.{profileNamed, Service, get, action}
+use Rattle.model.specs.Calls.{Lent, Call, frame, giveRegisters, setValue, setColumns, setPeriod, tick, setP5, powerUp, Outcome, Said, Decision, answer, serve, Protocol, rowNow, nextNumber, step}
+
+-- Rows.
+
+abbrev pub rowsOf : Model → List Entry
+rowsOf m = m .body .store .rows
+
+-- One row more: in front stands the new one, with the next record number; the older ones follow unchanged, and only where
+-- fifteen were kept the oldest is pushed out. Nothing is asked of the clock: it may equal that of a kept row.
+pub record OneMore (t : Clock) (before after : Body) : Type 0 where
+  pub rows : after .store .rows ≡ rowNow t before ∷ take (maxRows - 1) (before .store .rows)
+  pub kept : length (before .store .rows) < maxRows → after .store .rows ≡ rowNow t before ∷ before .store .rows
+  pub number : after .number ≡ nextNumber (before .number)
+
+-- "each due capture adds one row and alters none, equal times included; only a sixteenth row pushes out the oldest"
+abbrev pub DueTicks : Protocol → Type 0
+DueTicks p =
+    (m : Model) (t : Clock)
+    → sound m ≡ true
+    → validClock t ≡ true
+    → captureDue (m .body .period) t ≡ true
+    → OneMore t (m .body) (step p (tick t) m .next .body)
+
+-- The calls that may empty the rows: give registers, set columns, power-up, and an ACTION on the profile.
+
+abbrev pub onProfile : Name → Service → Bool
+onProfile n (get a s) = false
+onProfile n (action k v) = sameName profileNamed n
+
+abbrev pub resets : Decision → Bool
+resets (answer s) = false
+resets (serve q w l) = onProfile (q .name) (q .service)
+
+abbrev pub mayEmpty : Protocol → Call → Line → Bool
+mayEmpty p (frame a) l = resets ((p .decide) l a)
+mayEmpty p (giveRegisters rs) l = true
+mayEmpty p (setValue n v) l = false
+mayEmpty p (setColumns cs) l = true
+mayEmpty p (setPeriod d) l = false
+mayEmpty p (tick t) l = false
+mayEmpty p (setP5 f) l = false
+mayEmpty p powerUp l = true
+
+-- what a call leaves of the rows: all of them, or all and one more in front, or none, where it is a call that may
+pub data RowsAfter (p : Protocol) (c : Call) (m : Model) (o : Outcome) : Type 0 where
+  stay : rowsOf (o .next) ≡ rowsOf m → RowsAfter p c m o
+  grow : (t : Clock) → c ≡ tick t → OneMore t (m .body) (o .next .body) → RowsAfter p c m o
+  empty : mayEmpty p c (m .line) ≡ true → rowsOf (o .next) ≡ [] → RowsAfter p c m o
+
+abbrev pub RowsStay : Protocol → Type 0
+RowsStay p = (c : Call) (m : Model) → RowsAfter p c m (step p c m)
+
+-- Soundness.
+
+abbrev pub NewMeterSound : Type 0
+NewMeterSound = (d t v h : List ℕ) → sound (newMeter d t v h) ≡ true
+
+abbrev pub soundLine : Line → Bool
+soundLine l = kindsKnown l && linksStand l && servicesOffered l
+
+-- the line after a frame
+abbrev pub lineAfter : Decision → Line
+lineAfter (answer s) = s .line
+lineAfter (serve q w l) = l
+
+-- what is asked of a protocol: a sound line stays sound
+abbrev pub KeepsLines : Protocol → Type 0
+KeepsLines p = (l : Line) (a : Lent) → soundLine l ≡ true → soundLine (lineAfter ((p .decide) l a)) ≡ true
+
+abbrev pub StaysSound : Protocol → Type 0
+StaysSound p = (c : Call) (m : Model) → sound m ≡ true → sound (step p c m .next) ≡ true
+
+-- Numbers.
+
+-- what is asked of a protocol: its answers have the numbers that a frame has once refusals 1 to 3 are passed
+abbrev pub frameNumbers : List ℕ
+frameNumbers = 0 ∷ 4 ∷ 5 ∷ 6 ∷ 7 ∷ 8 ∷ 9 ∷ 10 ∷ 11 ∷ 12 ∷ 13 ∷ []
+
+abbrev pub saidNumber : Decision → ℕ
+saidNumber (answer s) = s .number
+saidNumber (serve q w l) = 0
+
+abbrev pub KnownNumbers : Protocol → Type 0
+KnownNumbers p = (l : Line) (a : Lent) → listed (saidNumber ((p .decide) l a)) frameNumbers ≡ true
+
+-- the numbers that document 01 allows a call
+abbrev pub numbers : Call → List ℕ
+numbers (frame a) = 1 ∷ 2 ∷ 3 ∷ frameNumbers
+numbers (giveRegisters rs) = 0 ∷ 3 ∷ 16 ∷ []
+numbers (setValue n v) = 0 ∷ 3 ∷ 17 ∷ []
+numbers (setColumns cs) = 0 ∷ 3 ∷ 18 ∷ []
+numbers (setPeriod d) = 0 ∷ 3 ∷ 15 ∷ []
+numbers (tick t) = 0 ∷ 3 ∷ 14 ∷ []
+numbers (setP5 f) = 0 ∷ 3 ∷ []
+numbers powerUp = 0 ∷ 3 ∷ []
+
+abbrev pub NumbersAllowed : Protocol → Type 0
+NumbersAllowed p = (c : Call) (m : Model) → listed (step p c m .number) (numbers c) ≡ true
+
+-- the refusals that leave the meter as it was, whatever the protocol
+abbrev pub keepingNumbers : List ℕ
+keepingNumbers = 1 ∷ 2 ∷ 3 ∷ 14 ∷ 15 ∷ 16 ∷ 17 ∷ 18 ∷ []
+
+abbrev pub RefusalsKeep : Protocol → Type 0
+RefusalsKeep p = (c : Call) (m : Model) → listed (step p c m .number) keepingNumbers ≡ true → step p c m .next ≡ m
