@@ -1,5 +1,4 @@
--- Laws of numbers as bytes, over any width: lengths, and that bytes and number give each other back; and the lengths and
--- forms of a length field.
+-- Laws of numbers as bytes, over any width: lengths, and that bytes and number give each other back.
 use mathlib.Core.Path.{_≡_, refl, sym, ap, ap₂, _∙_}
 use mathlib.Core.List.{List, [], _∷_, _++_, reverse, reverseAux, reverse-reverse, reverse-append}
 use Prim.Native.Nat.{ℕ, zero, suc, _+_, _*_, _/_, _%_, _^_, _<_, _≤_}
@@ -10,8 +9,7 @@ use lib.Pow.{pow-add}
 use lib.Dec.{lit<}
 use lib.ListN.{length, take, drop, getD, length-reverse, length-take, length-drop, length-append}
 use lib.Seq.{take-add, drop-drop, drop-cons, length-take-le}
-use borrow.Author.Tests.{lt-ltb, le-ltb}
-use Rattle.wire.specs.Numbers.{lowFirst, highFirst, numberLow, numberHigh, lengthField}
+use Rattle.wire.specs.Numbers.{lowFirst, highFirst, numberLow, numberHigh}
 
 -- every element is a byte, as a check has it of a slice of u8
 abbrev pub Bytes : List ℕ → Type 0
@@ -91,17 +89,3 @@ module _ (s : List ℕ) (at : ℕ) where
       ap numberHigh (take-add j k (drop at s) ∙ ap (λ (t : List ℕ). take j (drop at s) ++ take k t) (drop-drop j at s))
       ∙ number-append (take j (drop at s)) (take k (drop (at + j) s))
       ∙ ap (λ (w : ℕ). numberHigh (take j (drop at s)) * 256 ^ w + numberHigh (take k (drop (at + j) s))) n
-
--- the three forms of a length field
-module _ (n : ℕ) where
-  pub field-one : n < 128 → lengthField n ≡ n ∷ []
-  unfolding lengthField
-  field-one h = rw (lt-ltb n 128 h)
-
-  pub field-two : 128 ≤ n → n < 256 → lengthField n ≡ 0x81 ∷ n ∷ []
-  unfolding lengthField
-  field-two h k = rw (le-ltb n 128 h, lt-ltb n 256 k)
-
-  pub field-three : 256 ≤ n → lengthField n ≡ 0x82 ∷ highFirst 2 n
-  unfolding lengthField
-  field-three h = rw (le-ltb n 128 (omega arith), le-ltb n 256 h)

@@ -100,6 +100,12 @@ module _ {l m : List ℕ} {a b : ℕ} {bs : List ℕ} (w : Wrote l a m b bs) whe
   there =
       rw (w .is, append-assoc, drop-at (take a l) (bs ++ drop (a + length bs) l) a (length-take-le a l (omega (arith, w .room)))) (take-at bs (drop (a + length bs) l) (length bs) refl)
 
+  -- from its place on: what was written, then what stood after it
+  pub onward : drop a m ≡ bs ++ drop b l
+  unfolding over
+  onward =
+      rw (w .is, w .next, append-assoc) (drop-at (take a l) (bs ++ drop (a + length bs) l) a (length-take-le a l (omega (arith, w .room))))
+
   -- from the place after it on, all is as it was
   pub untouched : drop b m ≡ drop b l
   untouched = rw (w .next, w .is) (drop-over l a bs (w .room))
@@ -123,3 +129,9 @@ module _ {l m : List ℕ} {a b : ℕ} {bs : List ℕ} (w : Wrote l a m b bs) whe
 pub whole : {l m : List ℕ} {r : ℕ} {bs : List ℕ} → Wrote l 0 m r bs → m ≡ bs ++ drop r l
 unfolding over
 whole w = rw (w .next) (w .is)
+
+-- a stretch of what was written stands at its own place
+pub inside : {l m : List ℕ} {a b : ℕ} (xs ys zs : List ℕ) → Wrote l a m b (xs ++ ys ++ zs) → take (length ys) (drop (a + length xs) m) ≡ ys
+inside {l} {m} {a} {b} xs ys zs w =
+    ap (take (length ys)) (sym (drop-drop (length xs) a m) ∙ ap (drop (length xs)) (onward w ∙ simp append-assoc) ∙ drop-at xs (ys ++ (zs ++ drop b l)) (length xs) refl)
+    ∙ take-at ys (zs ++ drop b l) (length ys) refl

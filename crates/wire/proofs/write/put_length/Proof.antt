@@ -3,7 +3,7 @@ use mathlib.Core.Path.{ap}
 use native.Mathlib.Omega.{arith}
 use lib.ListN.{length}
 use borrow.Author.Needs.{needs}
-use Rattle.wire.proofs.NumberLaws.{field-one, field-two, field-three}
+use Rattle.wire.proofs.LengthLaws.{field-one, field-two, field-three}
 use Rattle.wire.proofs.WroteLaws.{then}
 use Rattle.wire.proofs.write.put_length.Statement.{statement}
 use Rattle.wire.proofs.write.put_length.Tie as tie
