@@ -17,7 +17,7 @@ highFirst w n = reverse (lowFirst w n)
 -- the number that bytes are, low byte first
 abbrev pub numberLow : List ℕ → ℕ
 numberLow [] = 0
-numberLow (b ∷ bs) = b + 256 * numberLow bs
+numberLow (b ∷ bs) = numberLow bs * 256 + b
 
 -- the number that bytes are, high byte first
 abbrev pub numberHigh : List ℕ → ℕ

@@ -1,0 +1,18 @@
+-- `wire::write::length_size` meets its contract: by the three forms.
+use mathlib.Core.Path.{sym, ap}
+use lib.ListN.{length}
+use Rattle.wire.proofs.LengthLaws.{field-one, field-two, field-three}
+use Rattle.wire.proofs.write.length_size.Statement.{statement}
+use Rattle.wire.proofs.write.length_size.Tie as tie
+
+returns : tie.Need-returns
+returns c = rw (field-one _ (c .if1 .taken))
+
+returns-2 : tie.Need-returns-2
+returns-2 c = rw (field-two _ (c .before .if1 .left) (c .if2 .taken))
+
+returns-3 : tie.Need-returns-3
+returns-3 c = rw (field-three _ (c .if2 .left))
+
+pub length-size-spec : {M : Type 1} → statement M
+length-size-spec = tie.close (tie.spec returns returns-2 returns-3)
