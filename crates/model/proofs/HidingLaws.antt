@@ -1,24 +1,24 @@
 -- Hiding the chosen values commutes with every operation on the store, and no test and no length sees a value.
 use mathlib.Core.Path.{_≡_, refl, sym, _∙_, ap, ap₂}
-use mathlib.Core.Bool.{Bool, true, false, cond, _&&_, _||_}
+use mathlib.Core.Bool.{Bool, true, false}
 use mathlib.Core.List.{List, [], _∷_, _++_, map, flatMap}
-use Prim.Native.Nat.{ℕ, zero, suc, _+_, _<_}
-use lib.ListN.{length, getD, set, take, drop, length-map, length-append, List·getD-map}
+use Prim.Native.Nat.{ℕ, suc, _+_}
+use lib.ListN.{length, getD, set, take, length-map, List·getD-map}
 use lib.Dec.{eqb, leb}
-use Rattle.wire.specs.Numbers.{highFirst, lengthField}
+use Rattle.wire.specs.Numbers.{lengthField}
 use Rattle.wire.proofs.NumberLaws.{length-high}
 use Rattle.model.specs.declared.Name.{Name}
 use Rattle.model.specs.declared.Register.{Register}
 use Rattle.model.specs.declared.Clock.{Clock}
-use Rattle.model.specs.Limits.{maxRows, maxRegisters, maxColumns}
-use Rattle.model.specs.Names.{sameName, every, seat, place, given, bearing, blankRegister, withValue, assigned, nameOf}
+use Rattle.model.specs.Limits.{maxRows}
+use Rattle.model.specs.Names.{seat, place, given, bearing, blankRegister, withValue, assigned, nameOf}
 use Rattle.model.specs.Clocks.{validClock}
-use Rattle.model.specs.State.{Entry, Store, Body, Model, withStore, withBody, withRows, withNumber}
+use Rattle.model.specs.State.{Entry, Store, Body, Model}
 use Rattle.model.specs.Soundness.{SoundnessTest, registerList, columnList, periodPermitted, clockValid, rowClocksValid, rowCount, rowCells, associationKind, associationOnLink, agreedServices, passes, acceptedRegisters, acceptedColumns, soundnessTests, sound}
 use Rattle.model.specs.Objects.{unsigned16, unsigned32, clockData, rowData, rowsData}
-use Rattle.model.specs.Calls.{cellsNow, rowNow, captured, withRegisters, withAssigned, withColumns}
+use Rattle.model.specs.Calls.{cellsNow, rowNow}
 use Rattle.model.specs.Demand3.{Chosen, hide, hideRegister, hideCells, hideEntry, hideStore, hideBody, hidden, anyChosen}
-use Rattle.model.proofs.ListLaws.{neither, every-same, length-both, map-take, map-drop, map-set, every-map, length-flat-map}
+use Rattle.model.proofs.ListLaws.{neither, every-same, length-both, map-take, map-set, every-map, length-flat-map}
 use Rattle.model.proofs.NameLaws.{given-bears, not-given}
 
 pub hide-hide : (b : Bool) (v : ℕ) → hide b (hide b v) ≡ hide b v

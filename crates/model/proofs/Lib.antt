@@ -1,4 +1,13 @@
+pub mod LimitFacts
+pub mod PeriodRule
 pub mod ListLaws
 pub mod NameLaws
+pub mod ObjectLaws
+pub mod SoundnessLaws
 pub mod HidingLaws
+pub mod AnswerLaws
 pub mod Noninterference
+pub mod Honesty
+pub mod KeptRows
+pub mod StaySound
+pub mod AllowedNumbers

@@ -14,7 +14,7 @@ use Rattle.model.specs.Periods.{listed, captureDue}
 use Rattle.model.specs.State.{Line, Entry, Body, Model, newMeter}
 use Rattle.model.specs.Soundness.{kindsKnown, linksStand, servicesOffered, sound}
 use Rattle.model.specs.Objects.{profileNamed, Service, get, action}
-use Rattle.model.specs.Calls.{Lent, Call, frame, giveRegisters, setValue, setColumns, setPeriod, tick, setP5, powerUp, Outcome, Said, Decision, answer, serve, Protocol, rowNow, nextNumber, step}
+use Rattle.model.specs.Calls.{Lent, Call, frame, giveRegisters, setValue, setColumns, setPeriod, tick, setP5, powerUp, Outcome, Decision, answer, serve, Protocol, rowNow, nextNumber, step}
 
 -- Rows.
 

@@ -11,7 +11,7 @@ use Rattle.model.specs.declared.Name.{Name}
 use Rattle.model.specs.declared.Register.{Register}
 use Rattle.model.specs.Names.{sameName, given, withValue}
 use Rattle.model.specs.State.{Entry, Store, Body, Model, withBody, withStore}
-use Rattle.model.specs.Objects.{profileNamed, Service, get, action, Request}
+use Rattle.model.specs.Objects.{profileNamed, Service, get, action}
 use Rattle.model.specs.Calls.{Call, frame, giveRegisters, setValue, setColumns, setPeriod, tick, setP5, powerUp, Outcome, Decision, answer, serve, Protocol, step, trace}
 
 -- "Registers are chosen by name, whenever given."

@@ -1,15 +1,16 @@
 -- Statements that keep demand 3 honest: its premises are met by as many meters as they should be, and its exception covers
 -- nothing but what document 01 names. Proved in proofs/Honesty.
 use mathlib.Core.Path.{_≡_}
-use mathlib.Core.Bool.{Bool, true, false, cond}
+use mathlib.Core.Bool.{true, false, cond}
+use mathlib.Core.Logic.{_⊎_}
 use mathlib.Core.List.{List, [], _∷_}
 use Prim.Native.Nat.{ℕ, suc}
 use Rattle.model.specs.declared.Name.{Name}
 use Rattle.model.specs.declared.Register.{Register}
 use Rattle.model.specs.Names.{sameName, given, withValue}
 use Rattle.model.specs.State.{Line, Entry, Store, Model, withBody, withStore}
-use Rattle.model.specs.Objects.{profileNamed, Selection, Service, get, Request}
-use Rattle.model.specs.Calls.{Lent, Call, frame, Outcome, Wrap, serve, Protocol, KeepsLengths, step, trace}
+use Rattle.model.specs.Objects.{profileNamed, Selection, get, Request}
+use Rattle.model.specs.Calls.{Lent, Call, frame, Wrap, serve, Protocol, step, trace}
 use Rattle.model.specs.Demand3.{Chosen, Alike, AlikeCalls, anyChosen, reads}
 
 -- The chosen values and the cells recorded from them, replaced by arbitrary numbers: v gives one for each register's place,
@@ -77,8 +78,8 @@ pub record ChosenRead (p : Protocol) (ch : Chosen) (c : Call) (m : Model) : Type
   pub decided : (p .decide) (m .line) lent ≡ serve request wrap line
   pub service : request .service ≡ get 2 selection
   pub asked :
-    ((sameName profileNamed (request .name) ≡ true) × (anyChosen ch (m .body .store .columns) ≡ true))
-    ⊎ ((given (request .name) (m .body .store .registers) ≡ true) × (ch (request .name) ≡ true))
+      ((sameName profileNamed (request .name) ≡ true) × (anyChosen ch (m .body .store .columns) ≡ true))
+      ⊎ ((given (request .name) (m .body .store .registers) ≡ true) × (ch (request .name) ≡ true))
 
 abbrev pub ReadsAreChosen : Protocol → Type 0
 ReadsAreChosen p = (ch : Chosen) (c : Call) (m : Model) → reads p ch c m ≡ true → ChosenRead p ch c m

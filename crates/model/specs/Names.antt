@@ -1,5 +1,5 @@
 -- Names of objects and registers: when two are the same, where one stands in a list, and the tests over lists of them.
-use mathlib.Core.Bool.{Bool, true, false, cond, not, _&&_, _||_}
+use mathlib.Core.Bool.{Bool, true, false, cond, not, _&&_}
 use mathlib.Core.List.{List, [], _∷_, map}
 use Prim.Native.Nat.{ℕ, suc}
 use lib.ListN.{length, getD, set}

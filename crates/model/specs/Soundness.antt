@@ -1,5 +1,5 @@
 -- "A state is sound when ..": the tests of document 01, one list of them in its order, and the state that passes all.
-use mathlib.Core.Bool.{Bool, true, false, not, _&&_, _||_}
+use mathlib.Core.Bool.{Bool, true, false, _&&_, _||_}
 use mathlib.Core.List.{List, [], _∷_, map}
 use Prim.Native.Nat.{ℕ}
 use lib.ListN.{length}
@@ -13,7 +13,7 @@ use Rattle.model.specs.Names.{every, distinct, allAmong, noneAmong, name
 use Rattle.model.specs.Clocks.{validClock}
 use Rattle.model.specs.Periods.{permittedPeriod}
 use Rattle.model.specs.Services.{offered, within}
-use Rattle.model.specs.State.{Association, none, pending, associated, Peer, Line, Entry, Model}
+use Rattle.model.specs.State.{Association, none, pending, associated, Peer, Line, Model}
 use Rattle.model.specs.Objects.{ownNames}
 
 -- What the owner's calls accept.

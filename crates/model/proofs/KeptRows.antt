@@ -1,0 +1,102 @@
+-- A due tick adds one row and alters none, and no call removes a row but those that empty the profile: the statements on rows
+-- of specs/Archive, proved.
+use mathlib.Core.Path.{_≡_, refl, _∙_, ap}
+use mathlib.Core.Bool.{Bool, true, false, cond}
+use mathlib.Core.List.{List, _∷_}
+use Prim.Native.Nat.{ℕ, zero, suc, _-_, _<_}
+use native.Mathlib.Omega.{arith}
+use lib.ListN.{take}
+use lib.Seq.{take-all}
+use lib.Dec.{eqb, lit<}
+use Rattle.model.specs.declared.Name.{Name}
+use Rattle.model.specs.declared.Clock.{Clock}
+use Rattle.model.specs.declared.Register.{Register}
+use Rattle.model.specs.Limits.{maxRows}
+use Rattle.model.specs.Names.{sameName, given}
+use Rattle.model.specs.Clocks.{validClock}
+use Rattle.model.specs.Periods.{permittedPeriod, captureDue}
+use Rattle.model.specs.State.{Line, Body, Model, withBody, withClock}
+use Rattle.model.specs.Soundness.{acceptedRegisters, acceptedColumns, sound}
+use Rattle.model.specs.Objects.{Content, plain, rows, recordNumber, register, Meaning, known, unknown, meaning, Service, get, action, Request, Result, granted, denied, methodInvoked, afterMethod, afterAction, answered, turned, profileNamed}
+use Rattle.model.specs.Calls.{Lent, Call, frame, giveRegisters, setValue, setColumns, setPeriod, tick, setP5, powerUp, Outcome, done, Wrap, Decision, answer, serve, Protocol, decided, rowNow, captured, ticked, act, early, step}
+use Rattle.model.specs.Archive.{OneMore, DueTicks, onProfile, resets, mayEmpty, RowsAfter, stay, grow, empty, RowsStay}
+use Rattle.model.proofs.ObjectLaws.{Tells, Means, meaning-tells}
+
+-- of k at most, the first stands in front of all but the last of the others
+take-front : {A : Type 0} (k : ℕ) (x : A) (xs : List A) → 0 < k → take k (x ∷ xs) ≡ x ∷ take (k - 1) xs
+take-front zero x xs h = absurd (omega arith)
+take-front (suc k) x xs h = let e : k ≡ suc k - 1 = omega arith in ap (λ (j : ℕ). x ∷ take j xs) e
+
+some-rows : 0 < maxRows
+unfolding maxRows
+some-rows = lit< tt
+
+captured-more : (t : Clock) (b : Body) → OneMore t b (captured t b)
+unfolding captured
+captured-more t b =
+    record {
+      rows = take-front maxRows (rowNow t b) (b .store .rows) some-rows;
+      kept = λ h. take-all maxRows (rowNow t b ∷ b .store .rows) h;
+      number = refl;
+    }
+
+ticked-more : (t : Clock) (b : Body) → captureDue (b .period) t ≡ true → OneMore t b (ticked t b)
+unfolding ticked
+ticked-more t b d = rw d (let h = captured-more t b in record { rows = h .rows; kept = h .kept; number = h .number })
+
+pub due-ticks : (p : Protocol) → DueTicks p
+unfolding step act
+due-ticks p m t s v d = rw (s, v) (ticked-more t (m .body) d)
+
+module _ (p : Protocol) (m : Model) where
+  rows-if : (c : Call) (b : Bool) (o q : Outcome) → (b ≡ true → RowsAfter p c m o) → (b ≡ false → RowsAfter p c m q) → RowsAfter p c m (cond b o q)
+  rows-if c true o q x y = x refl
+  rows-if c false o q x y = y refl
+
+  -- the rows after an ACTION that was granted: as they were, or none, where it is on the profile
+  method-rows : (c : Call) (o : Outcome) (x : Content) (n : Name) (rs : List Register) → Tells x n rs → (sameName profileNamed n ≡ true → mayEmpty p c (m .line) ≡ true)
+      → o .next .body ≡ afterMethod x (m .body) → RowsAfter p c m o
+  method-rows c o (plain y) n rs t k e = stay (ap (λ (b : Body). b .store .rows) e)
+  method-rows c o rows n rs t k e = empty (k t) (ap (λ (b : Body). b .store .rows) e)
+  method-rows c o recordNumber n rs t k e = stay (ap (λ (b : Body). b .store .rows) e)
+  method-rows c o (register r) n rs t k e = stay (ap (λ (b : Body). b .store .rows) e)
+
+  action-rows : (c : Call) (o : Outcome) (w : Meaning) (r : Result) (n : Name) (rs : List Register) → Means w n rs → (sameName profileNamed n ≡ true → mayEmpty p c (m .line) ≡ true)
+      → o .next .body ≡ afterAction w (m .body) r → RowsAfter p c m o
+  action-rows c o unknown r n rs t k e = stay (ap (λ (b : Body). b .store .rows) e)
+  action-rows c o (known x) (granted d) n rs t k e = method-rows c o (x .content) n rs t k e
+  action-rows c o (known x) (denied d) n rs t k e = stay (ap (λ (b : Body). b .store .rows) e)
+
+  served-rows : (a : Lent) (q : Request) (v : Service) (w : Wrap) (l : Line) (o : Outcome) → (p .decide) (m .line) a ≡ serve q w l → q .service ≡ v
+      → o .next .body ≡ answered q (m .body) (meaning (q .client) (q .name) (m .body .store .registers)) v .body → RowsAfter p (frame a) m o
+  served-rows a q (get k s) w l o d e f = stay (ap (λ (b : Body). b .store .rows) f)
+  served-rows a q (action k v) w l o d e f =
+      action-rows (frame a) o (meaning (q .client) (q .name) (m .body .store .registers)) (methodInvoked q k v (meaning (q .client) (q .name) (m .body .store .registers)))
+      (q .name) (m .body .store .registers) (meaning-tells (q .client) (q .name) (m .body .store .registers))
+      (λ h. ap resets d ∙ ap (onProfile (q .name)) e ∙ h) f
+
+  act-rows : (c : Call) → RowsAfter p c m (act p c m)
+  unfolding act turned ticked
+  act-rows (frame a) = go ((p .decide) (m .line) a) refl
+    where
+      go : (d : Decision) → (p .decide) (m .line) a ≡ d → RowsAfter p (frame a) m (decided p d m)
+      go (answer s) e = stay refl
+      go (serve q w l) e = served-rows a q (q .service) w l (decided p (serve q w l) m) e refl refl
+  act-rows (giveRegisters rs) = rows-if (giveRegisters rs) (acceptedRegisters rs) _ _ (λ _. empty refl refl) (λ _. stay refl)
+  act-rows (setValue n v) = rows-if (setValue n v) (given n (m .body .store .registers)) _ _ (λ _. stay refl) (λ _. stay refl)
+  act-rows (setColumns cs) = rows-if (setColumns cs) (acceptedColumns (m .body .store .registers) cs) _ _ (λ _. empty refl refl) (λ _. stay refl)
+  act-rows (setPeriod d) = rows-if (setPeriod d) (permittedPeriod d) _ _ (λ _. stay refl) (λ _. stay refl)
+  act-rows (tick t) = rows-if (tick t) (validClock t) _ _ (λ _. go (captureDue (m .body .period) t) refl) (λ _. stay refl)
+    where
+      go : (b : Bool) → captureDue (m .body .period) t ≡ b → RowsAfter p (tick t) m (done (withBody (withClock t (cond b (captured t (m .body)) (m .body))) m))
+      go true e = grow t refl (let h = captured-more t (m .body) in record { rows = h .rows; kept = h .kept; number = h .number })
+      go false e = stay refl
+  act-rows (setP5 f) = stay refl
+  act-rows powerUp = empty refl refl
+
+pub rows-stay : (p : Protocol) → RowsStay p
+unfolding step
+rows-stay p c m =
+    rows-if p m c (eqb (early c) 0) _ _
+    (λ _. rows-if p m c (sound m) _ _ (λ _. act-rows p m c) (λ _. stay refl))
+    (λ _. stay refl)

@@ -1,0 +1,211 @@
+-- A new meter is sound, and a sound meter stays sound: the statements on soundness of specs/Archive, proved.
+use mathlib.Core.Path.{_≡_, refl, _∙_}
+use mathlib.Core.Bool.{Bool, true, false, cond, _&&_}
+use mathlib.Core.List.{List, [], _∷_, map}
+use Prim.Native.Nat.{ℕ, zero, suc, _≤_}
+use native.Mathlib.Omega.{arith}
+use lib.ListN.{length, take, length-map, length-set, length-take}
+use lib.Seq.{map-set-same}
+use lib.Dec.{eqb, leb}
+use borrow.Author.Tests.{le-leb, eq-eqb}
+use Rattle.model.specs.declared.Name.{Name}
+use Rattle.model.specs.declared.Clock.{Clock}
+use Rattle.model.specs.declared.Register.{Register}
+use Rattle.model.specs.Limits.{maxRows, maxRegisters, maxColumns}
+use Rattle.model.specs.Names.{every, given, bearing, blankRegister, place, assigned, nameOf}
+use Rattle.model.specs.Clocks.{validClock, realDate, realTime, fixedBytes, daysIn, februaryDays}
+use Rattle.model.specs.Periods.{periods, permittedPeriod, captureDue}
+use Rattle.model.specs.State.{Entry, Body, Model, withLine, withBody, withStore, withRows, withClock, withNumber, withPeriod, withP5, newMeter}
+use Rattle.model.specs.Soundness.{SoundnessTest, registerList, columnList, periodPermitted, clockValid, rowClocksValid, rowCount, rowCells, associationKind, associationOnLink, agreedServices, passes, acceptedRegisters, acceptedColumns, kindsKnown, linksStand, servicesOffered, sound}
+use Rattle.model.specs.Objects.{Content, plain, rows, recordNumber, register, Meaning, known, unknown, meaning, Service, get, action, Request, Result, granted, denied, methodInvoked, afterMethod, afterAction, answered, turned}
+use Rattle.model.specs.Calls.{Call, frame, giveRegisters, setValue, setColumns, setPeriod, tick, setP5, powerUp, Outcome, Decision, answer, serve, Protocol, decided, rowNow, captured, ticked, withRegisters, withAssigned, withColumns, act, early, step}
+use Rattle.model.specs.Archive.{NewMeterSound, soundLine, lineAfter, KeepsLines, StaysSound}
+use Rattle.model.proofs.ListLaws.{both, both-true, every-anywhere}
+use Rattle.model.proofs.SoundnessLaws.{sound-passes, sound-from}
+
+pub new-meter-sound : NewMeterSound
+unfolding sound newMeter acceptedRegisters acceptedColumns validClock realDate realTime fixedBytes daysIn februaryDays periods maxRows maxRegisters maxColumns
+new-meter-sound d t v h = refl
+
+-- The tests on the body, and those on the line.
+record GoodBody (b : Body) : Type 0 where
+  registers : acceptedRegisters (b .store .registers) ≡ true
+  columns : acceptedColumns (b .store .registers) (b .store .columns) ≡ true
+  period : permittedPeriod (b .period) ≡ true
+  clock : validClock (b .clock) ≡ true
+  clocks : every (λ i r. validClock (r .clock)) 0 (b .store .rows) ≡ true
+  count : leb (length (b .store .rows)) maxRows ≡ true
+  cells : every (λ i r. eqb (length (r .cells)) (length (b .store .columns))) 0 (b .store .rows) ≡ true
+
+good-body : (m : Model) → sound m ≡ true → GoodBody (m .body)
+good-body m s =
+    let h = sound-passes m s in
+    record {
+      registers = h registerList;
+      columns = h columnList;
+      period = h periodPermitted;
+      clock = h clockValid;
+      clocks = h rowClocksValid;
+      count = h rowCount;
+      cells = h rowCells;
+    }
+
+good-line : (m : Model) → sound m ≡ true → soundLine (m .line) ≡ true
+good-line m s = let h = sound-passes m s in both-true (both-true (h associationKind) (h associationOnLink)) (h agreedServices)
+
+sound-of : (m : Model) → GoodBody (m .body) → soundLine (m .line) ≡ true → sound m ≡ true
+sound-of m g e = sound-from m go
+  where
+    inner : kindsKnown (m .line) && linksStand (m .line) ≡ true
+    inner = both (kindsKnown (m .line) && linksStand (m .line)) (servicesOffered (m .line)) e .0
+
+    go : (t : SoundnessTest) → passes t m ≡ true
+    go registerList = g .registers
+    go columnList = g .columns
+    go periodPermitted = g .period
+    go clockValid = g .clock
+    go rowClocksValid = g .clocks
+    go rowCount = g .count
+    go rowCells = g .cells
+    go associationKind = both (kindsKnown (m .line)) (linksStand (m .line)) inner .0
+    go associationOnLink = both (kindsKnown (m .line)) (linksStand (m .line)) inner .1
+    go agreedServices = both (kindsKnown (m .line) && linksStand (m .line)) (servicesOffered (m .line)) e .1
+
+-- Each change of the body keeps it good.
+
+no-columns : (rs : List Register) → acceptedColumns rs [] ≡ true
+unfolding acceptedColumns maxColumns
+no-columns rs = refl
+
+no-rows : leb 0 maxRows ≡ true
+unfolding maxRows
+no-rows = refl
+
+good-registers : (rs : List Register) (b : Body) → acceptedRegisters rs ≡ true → GoodBody b → GoodBody (withRegisters rs b)
+good-registers rs b a g =
+    record { registers = a; columns = no-columns rs; period = g .period; clock = g .clock; clocks = refl; count = no-rows; cells = refl }
+
+assigned-names : (n : Name) (v : ℕ) (rs : List Register) → map nameOf (assigned n v rs) ≡ map nameOf rs
+assigned-names n v rs = map-set-same nameOf rs (place n rs) _ blankRegister refl
+
+assigned-accepted : (n : Name) (v : ℕ) (rs : List Register) → acceptedRegisters (assigned n v rs) ≡ acceptedRegisters rs
+unfolding acceptedRegisters
+assigned-accepted n v rs = simp (assigned-names n v rs, length-set)
+
+assigned-columns : (n : Name) (v : ℕ) (rs : List Register) (cs : List Name) → acceptedColumns (assigned n v rs) cs ≡ acceptedColumns rs cs
+unfolding acceptedColumns
+assigned-columns n v rs cs = simp (assigned-names n v rs)
+
+good-assigned : (n : Name) (v : ℕ) (b : Body) → GoodBody b → GoodBody (withAssigned n v b)
+good-assigned n v b g =
+    record {
+      registers = assigned-accepted n v (b .store .registers) ∙ g .registers;
+      columns = assigned-columns n v (b .store .registers) (b .store .columns) ∙ g .columns;
+      period = g .period;
+      clock = g .clock;
+      clocks = g .clocks;
+      count = g .count;
+      cells = g .cells;
+    }
+
+good-columns : (cs : List Name) (b : Body) → acceptedColumns (b .store .registers) cs ≡ true → GoodBody b → GoodBody (withColumns cs b)
+good-columns cs b a g =
+    record { registers = g .registers; columns = a; period = g .period; clock = g .clock; clocks = refl; count = no-rows; cells = refl }
+
+good-period : (d : ℕ) (b : Body) → permittedPeriod d ≡ true → GoodBody b → GoodBody (withPeriod d b)
+good-period d b a g =
+    record { registers = g .registers; columns = g .columns; period = a; clock = g .clock; clocks = g .clocks; count = g .count; cells = g .cells }
+
+good-clock : (t : Clock) (b : Body) → validClock t ≡ true → GoodBody b → GoodBody (withClock t b)
+good-clock t b a g =
+    record { registers = g .registers; columns = g .columns; period = g .period; clock = a; clocks = g .clocks; count = g .count; cells = g .cells }
+
+good-emptied : (b : Body) → GoodBody b → GoodBody (withStore (withRows [] (b .store)) b)
+good-emptied b g =
+    record { registers = g .registers; columns = g .columns; period = g .period; clock = g .clock; clocks = refl; count = no-rows; cells = refl }
+
+good-number : (n : ℕ) (b : Body) → GoodBody b → GoodBody (withNumber n b)
+good-number n b g =
+    record { registers = g .registers; columns = g .columns; period = g .period; clock = g .clock; clocks = g .clocks; count = g .count; cells = g .cells }
+
+every-take : {A : Type 0} (f : A → Bool) (i k : ℕ) (xs : List A) → every (λ j x. f x) i xs ≡ true → every (λ j x. f x) i (take k xs) ≡ true
+every-take f i zero xs e = refl
+every-take f i (suc k) [] e = refl
+every-take f i (suc k) (x ∷ xs) e =
+    let h = both (f x) (every (λ j y. f y) (suc i) xs) e in both-true (h .0) (every-take f (suc i) k xs (h .1))
+
+every-pushed : {A : Type 0} (f : A → Bool) (k : ℕ) (x : A) (xs : List A) → f x ≡ true → every (λ j y. f y) 0 xs ≡ true → every (λ j y. f y) 0 (take k (x ∷ xs)) ≡ true
+every-pushed f k x xs h e = every-take f 0 k (x ∷ xs) (both-true h (every-anywhere f 1 0 xs ∙ e))
+
+few : {A : Type 0} (k : ℕ) (xs : List A) → length (take k xs) ≤ k
+few k xs = simp length-take (omega arith)
+
+good-captured : (t : Clock) (b : Body) → validClock t ≡ true → GoodBody b → GoodBody (captured t b)
+unfolding captured
+good-captured t b a g =
+    record {
+      registers = g .registers;
+      columns = g .columns;
+      period = g .period;
+      clock = g .clock;
+      clocks = every-pushed (λ (r : Entry). validClock (r .clock)) maxRows (rowNow t b) (b .store .rows) a (g .clocks);
+      count = le-leb _ _ (few maxRows (rowNow t b ∷ b .store .rows));
+      cells =
+          every-pushed (λ (r : Entry). eqb (length (r .cells)) (length (b .store .columns))) maxRows (rowNow t b) (b .store .rows)
+          (eq-eqb _ _ (length-map (b .store .columns) (λ c. bearing c (b .store .registers) .value))) (g .cells);
+    }
+
+good-ticked : (t : Clock) (b : Body) → validClock t ≡ true → GoodBody b → GoodBody (ticked t b)
+unfolding ticked
+good-ticked t b a g = good-clock t _ a (go (captureDue (b .period) t))
+  where
+    go : (due : Bool) → GoodBody (cond due (captured t b) b)
+    go true = good-captured t b a g
+    go false = g
+
+good-method : (x : Content) (b : Body) → GoodBody b → GoodBody (afterMethod x b)
+good-method (plain y) b g = g
+good-method rows b g = good-emptied b g
+good-method recordNumber b g = good-number 0 b g
+good-method (register r) b g = g
+
+good-action : (w : Meaning) (b : Body) (r : Result) → GoodBody b → GoodBody (afterAction w b r)
+good-action unknown b r g = g
+good-action (known o) b (granted d) g = good-method (o .content) b g
+good-action (known o) b (denied c) g = g
+
+good-turned : (q : Request) (b : Body) → GoodBody b → GoodBody (turned q b .body)
+unfolding turned
+good-turned q b g = go (meaning (q .client) (q .name) (b .store .registers)) (q .service)
+  where
+    go : (w : Meaning) (v : Service) → GoodBody (answered q b w v .body)
+    go w (get a s) = g
+    go w (action k v) = good-action w b (methodInvoked q k v w) g
+
+module _ (p : Protocol) (keeps : KeepsLines p) (m : Model) (s : sound m ≡ true) where
+  sound-if : (b : Bool) (o q : Outcome) → (b ≡ true → sound (o .next) ≡ true) → sound (q .next) ≡ true → sound (cond b o q .next) ≡ true
+  sound-if true o q x y = x refl
+  sound-if false o q x y = y
+
+  body-sound : (b : Body) → GoodBody b → sound (withBody b m) ≡ true
+  body-sound b g = sound-of (withBody b m) g (good-line m s)
+
+  act-sound : (c : Call) → sound (act p c m .next) ≡ true
+  unfolding act
+  act-sound (frame a) = go ((p .decide) (m .line) a) (keeps (m .line) a (good-line m s))
+    where
+      go : (d : Decision) → soundLine (lineAfter d) ≡ true → sound (decided p d m .next) ≡ true
+      go (answer x) e = sound-of (withLine (x .line) m) (good-body m s) e
+      go (serve q w l) e = sound-of _ (good-turned q (m .body) (good-body m s)) e
+  act-sound (giveRegisters rs) = sound-if (acceptedRegisters rs) _ _ (λ a. body-sound _ (good-registers rs (m .body) a (good-body m s))) s
+  act-sound (setValue n v) = sound-if (given n (m .body .store .registers)) _ _ (λ _. body-sound _ (good-assigned n v (m .body) (good-body m s))) s
+  act-sound (setColumns cs) = sound-if (acceptedColumns (m .body .store .registers) cs) _ _ (λ a. body-sound _ (good-columns cs (m .body) a (good-body m s))) s
+  act-sound (setPeriod d) = sound-if (permittedPeriod d) _ _ (λ a. body-sound _ (good-period d (m .body) a (good-body m s))) s
+  act-sound (tick t) = sound-if (validClock t) _ _ (λ a. body-sound _ (good-ticked t (m .body) a (good-body m s))) s
+  act-sound (setP5 f) = sound-of (withLine (withP5 f (m .line)) m) (good-body m s) (good-line m s)
+  act-sound powerUp = sound-of _ (good-number 0 _ (good-emptied (m .body) (good-body m s))) refl
+
+pub stays-sound : (p : Protocol) → KeepsLines p → StaysSound p
+unfolding step
+stays-sound p keeps c m s =
+    sound-if p keeps m s (eqb (early c) 0) _ _ (λ _. sound-if p keeps m s (sound m) _ _ (λ _. act-sound p keeps m s c) s) s
