@@ -2,31 +2,37 @@
 -- are added and kept, sound meters stay sound, and each call has its own numbers. Proved in proofs/Archive.
 use mathlib.Core.Path.{_≡_}
 use mathlib.Core.Bool.{Bool, true, false, _&&_}
-use mathlib.Core.List.{List, [], _∷_}
-use Prim.Native.Nat.{ℕ, _-_, _<_}
+use mathlib.Core.List.{List, [], _∷_, map}
+use Prim.Native.Nat.{ℕ, _+_, _-_, _%_, _<_}
 use lib.ListN.{length, take}
 use Rattle.model.specs.declared.Name.{Name}
 use Rattle.model.specs.declared.Clock.{Clock}
 use Rattle.model.specs.Limits.{maxRows}
-use Rattle.model.specs.Names.{sameName}
+use Rattle.model.specs.Names.{sameName, bearing}
 use Rattle.model.specs.Clocks.{validClock}
 use Rattle.model.specs.Periods.{listed, captureDue}
 use Rattle.model.specs.State.{Line, Entry, Body, Model, newMeter}
 use Rattle.model.specs.Soundness.{kindsKnown, linksStand, servicesOffered, sound}
 use Rattle.model.specs.Objects.{profileNamed, Service, get, action}
-use Rattle.model.specs.Calls.{Lent, Call, frame, giveRegisters, setValue, setColumns, setPeriod, tick, setP5, powerUp, Outcome, Decision, answer, serve, Protocol, rowNow, nextNumber, step}
+use Rattle.model.specs.Calls.{Lent, Call, frame, giveRegisters, setValue, setColumns, setPeriod, tick, setP5, powerUp, Outcome, Decision, answer, serve, Protocol, step}
 
 -- Rows.
 
 abbrev pub rowsOf : Model → List Entry
 rowsOf m = m .body .store .rows
 
--- One row more: in front stands the new one, with the next record number; the older ones follow unchanged, and only where
--- fifteen were kept the oldest is pushed out. Nothing is asked of the clock: it may equal that of a kept row.
+-- the row that is due: "the record number grows by one (65535 to 0) and a row with that number is taken", of this clock, with
+-- the present value of each column's register
+abbrev pub dueRow : Clock → Body → Entry
+dueRow t b =
+    record { number = (b .number + 1) % 65536; clock = t; cells = map (λ c. bearing c (b .store .registers) .value) (b .store .columns) }
+
+-- One row more: it stands in front; the older ones follow unchanged, and only where fifteen were kept the oldest is pushed
+-- out. Nothing is asked of the clock: it may equal that of a kept row.
 pub record OneMore (t : Clock) (before after : Body) : Type 0 where
-  pub rows : after .store .rows ≡ rowNow t before ∷ take (maxRows - 1) (before .store .rows)
-  pub kept : length (before .store .rows) < maxRows → after .store .rows ≡ rowNow t before ∷ before .store .rows
-  pub number : after .number ≡ nextNumber (before .number)
+  pub rows : after .store .rows ≡ dueRow t before ∷ take (maxRows - 1) (before .store .rows)
+  pub kept : length (before .store .rows) < maxRows → after .store .rows ≡ dueRow t before ∷ before .store .rows
+  pub number : after .number ≡ (before .number + 1) % 65536
 
 -- "each due capture adds one row and alters none, equal times included; only a sixteenth row pushes out the oldest"
 abbrev pub DueTicks : Protocol → Type 0
