@@ -7,13 +7,15 @@ use native.Mathlib.Omega.{arith}
 use lib.Arith.{mod-mul, digits-mod, digits-div, digits-lt}
 use lib.Pow.{pow-add}
 use lib.Dec.{lit<}
+use mir.Syntax.{w8}
+use mir.Val.{Fits}
 use lib.ListN.{length, take, drop, getD, length-reverse, length-take, length-drop, length-append}
 use lib.Seq.{take-add, drop-drop, drop-cons, length-take-le}
 use Rattle.wire.specs.Numbers.{lowFirst, highFirst, numberLow, numberHigh}
 
--- every element is a byte, as a check has it of a slice of u8
+-- every element is a byte: what `shared-slice-known .given` and `slice-known .given` tell of a slice of u8
 abbrev pub Bytes : List ℕ → Type 0
-Bytes bs = (i : ℕ) → getD bs i 0 < 256
+Bytes bs = (i : ℕ) → Fits w8 (getD bs i 0)
 
 pow-pos : (w : ℕ) → 0 < 256 ^ w
 pow-pos zero = lit< tt
@@ -39,28 +41,31 @@ reverse-bytes : (bs cs : List ℕ) → Bytes bs → Bytes cs → Bytes (reverseA
 reverse-bytes [] cs h k = k
 reverse-bytes (b ∷ bs) cs h k = reverse-bytes bs (b ∷ cs) (λ i. h (suc i)) (both b cs (h zero) k)
   where
-    both : (b : ℕ) (cs : List ℕ) → b < 256 → Bytes cs → Bytes (b ∷ cs)
+    both : (b : ℕ) (cs : List ℕ) → Fits w8 b → Bytes cs → Bytes (b ∷ cs)
     both b cs h k zero = h
     both b cs h k (suc i) = k i
 
+pub no-bytes : Bytes []
+no-bytes i = record { fits = lit< tt }
+
 low-below : (bs : List ℕ) → Bytes bs → numberLow bs < 256 ^ length bs
 low-below [] h = lit< tt
-low-below (b ∷ bs) h = rw (pow-suc 256 (length bs)) (digits-lt (low-below bs (λ i. h (suc i))) (h zero))
+low-below (b ∷ bs) h = rw (pow-suc 256 (length bs)) (digits-lt (low-below bs (λ i. h (suc i))) (h zero .fits))
 
 -- a number of w bytes is below 256 ^ w
 pub number-below : (bs : List ℕ) → Bytes bs → numberHigh bs < 256 ^ length bs
-number-below bs h = rw (length-reverse bs) at (low-below (reverse bs) (reverse-bytes bs [] h (λ i. lit< tt)))
+number-below bs h = rw (length-reverse bs) at (low-below (reverse bs) (reverse-bytes bs [] h no-bytes))
 
 low-bytes : (bs : List ℕ) → Bytes bs → lowFirst (length bs) (numberLow bs) ≡ bs
 low-bytes [] h = refl
 low-bytes (b ∷ bs) h =
-    ap₂ (λ (x : ℕ) (xs : List ℕ). x ∷ xs) (digits-mod (numberLow bs) (h zero))
-    (ap (lowFirst (length bs)) (digits-div (numberLow bs) (h zero)) ∙ low-bytes bs (λ i. h (suc i)))
+    ap₂ (λ (x : ℕ) (xs : List ℕ). x ∷ xs) (digits-mod (numberLow bs) (h zero .fits))
+    (ap (lowFirst (length bs)) (digits-div (numberLow bs) (h zero .fits)) ∙ low-bytes bs (λ i. h (suc i)))
 
 -- the bytes of the number that bytes are, are those bytes
 pub high-bytes : (bs : List ℕ) → Bytes bs → highFirst (length bs) (numberHigh bs) ≡ bs
 high-bytes bs h =
-    ap reverse (ap (λ (k : ℕ). lowFirst k (numberHigh bs)) (sym (length-reverse bs)) ∙ low-bytes (reverse bs) (reverse-bytes bs [] h (λ i. lit< tt)))
+    ap reverse (ap (λ (k : ℕ). lowFirst k (numberHigh bs)) (sym (length-reverse bs)) ∙ low-bytes (reverse bs) (reverse-bytes bs [] h no-bytes))
     ∙ reverse-reverse bs
 
 low-append : (xs ys : List ℕ) → numberLow (xs ++ ys) ≡ numberLow ys * 256 ^ length xs + numberLow xs

@@ -7,7 +7,7 @@ use Prim.Native.Nat.{ℕ, zero, suc, _+_, _^_, _≤_, _<_}
 use native.Mathlib.Nat.{add-sub-cancel-left, lt-of-not-le, mod-eq-of-lt}
 use native.Mathlib.Decide.{decLe}
 use native.Mathlib.Omega.{arith}
-use lib.Dec.{leb, lit<}
+use lib.Dec.{leb}
 use lib.ListN.{length, take, drop, getD, length-drop}
 use lib.Seq.{length-take-le, getD-drop}
 use borrow.Author.Tests.{le-leb, lt-leb, leb-true}
@@ -16,7 +16,7 @@ use Rattle.wire.specs.Reading.{expected, numberAt, part, sameBytes, skip
 use Rattle.wire.specs.Wrote.{Wrote}
 use Rattle.wire.specs.declared.End.the-variants.{At, Bad}
 use Rattle.wire.specs.declared.Field.the-variants.{Found, Missing}
-use Rattle.wire.proofs.NumberLaws.{Bytes, number-below, high-number, high-bytes, length-high}
+use Rattle.wire.proofs.NumberLaws.{Bytes, no-bytes, number-below, high-number, high-bytes, length-high}
 use Rattle.wire.proofs.SameLaws.{same-equal}
 use Rattle.wire.proofs.WroteLaws.{there}
 
@@ -28,8 +28,8 @@ by-order {P} m n f g = go (decLe m n)
     go (no h) = g (lt-of-not-le h)
 
 take-bytes : (w : ℕ) (s : List ℕ) → Bytes s → Bytes (take w s)
-take-bytes zero s k i = lit< tt
-take-bytes (suc w) [] k i = lit< tt
+take-bytes zero s k i = no-bytes i
+take-bytes (suc w) [] k i = no-bytes i
 take-bytes (suc w) (x ∷ xs) k zero = k zero
 take-bytes (suc w) (x ∷ xs) k (suc i) = take-bytes w xs (λ j. k (suc j)) i
 
