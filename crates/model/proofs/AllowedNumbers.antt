@@ -14,7 +14,7 @@ use Rattle.model.specs.Periods.{listed, permittedPeriod}
 use Rattle.model.specs.State.{Body, Model}
 use Rattle.model.specs.Soundness.{acceptedRegisters, acceptedColumns, sound}
 use Rattle.model.specs.Objects.{meaning, Service, get, action, Request, Result, granted, denied, methodInvoked, attributeRead, answered, turned, refusalOf}
-use Rattle.model.specs.Calls.{Lent, lentRefusal, Call, frame, giveRegisters, setValue, setColumns, setPeriod, tick, setP5, powerUp, Outcome, Decision, answer, serve, Protocol, decided, act, early, step}
+use Rattle.model.specs.Calls.{refused, Lent, lentRefusal, Call, frame, giveRegisters, setValue, setColumns, setPeriod, tick, setP5, powerUp, Outcome, Decision, answer, serve, Protocol, decided, act, early, step}
 use Rattle.model.specs.Archive.{frameNumbers, saidNumber, KnownNumbers, numbers, NumbersAllowed, keepingNumbers, RefusalsKeep}
 use Rattle.model.proofs.ListLaws.{both, every-anywhere}
 
@@ -93,31 +93,31 @@ number-if P true o q x y = x refl
 number-if P false o q x y = y
 
 module _ (p : Protocol) (known-numbers : KnownNumbers p) (m : Model) where
-  decided-number : (a : Lent) → listed (decided p ((p .decide) (m .line) a) m .number) frameNumbers ≡ true
+  decided-number : (a : Lent) → listed (decided p ((p .decide) (m .line) a) m .refusal) frameNumbers ≡ true
   decided-number a = go ((p .decide) (m .line) a) (known-numbers (m .line) a)
     where
-      go : (d : Decision) → listed (saidNumber d) frameNumbers ≡ true → listed (decided p d m .number) frameNumbers ≡ true
+      go : (d : Decision) → listed (saidNumber d) frameNumbers ≡ true → listed (decided p d m .refusal) frameNumbers ≡ true
       go (answer s) e = e
       go (serve q w l) e = inside (turned q (m .body) .refusal) (0 ∷ 13 ∷ []) frameNumbers refl (turned-number q (m .body))
 
-  act-allowed : (c : Call) → listed (act p c m .number) (numbers c) ≡ true
+  act-allowed : (c : Call) → listed (act p c m .refusal) (numbers c) ≡ true
   unfolding act
-  act-allowed (frame a) = inside (decided p ((p .decide) (m .line) a) m .number) frameNumbers (numbers (frame a)) refl (decided-number a)
-  act-allowed (giveRegisters rs) = number-if (λ o. listed (o .number) (0 ∷ 3 ∷ 16 ∷ []) ≡ true) (acceptedRegisters rs) _ _ (λ _. refl) refl
-  act-allowed (setValue n v) = number-if (λ o. listed (o .number) (0 ∷ 3 ∷ 17 ∷ []) ≡ true) (given n (m .body .store .registers)) _ _ (λ _. refl) refl
-  act-allowed (setColumns cs) = number-if (λ o. listed (o .number) (0 ∷ 3 ∷ 18 ∷ []) ≡ true) (acceptedColumns (m .body .store .registers) cs) _ _ (λ _. refl) refl
-  act-allowed (setPeriod d) = number-if (λ o. listed (o .number) (0 ∷ 3 ∷ 15 ∷ []) ≡ true) (permittedPeriod d) _ _ (λ _. refl) refl
-  act-allowed (tick t) = number-if (λ o. listed (o .number) (0 ∷ 3 ∷ 14 ∷ []) ≡ true) (validClock t) _ _ (λ _. refl) refl
+  act-allowed (frame a) = inside (decided p ((p .decide) (m .line) a) m .refusal) frameNumbers (numbers (frame a)) refl (decided-number a)
+  act-allowed (giveRegisters rs) = number-if (λ o. listed (o .refusal) (0 ∷ 3 ∷ 16 ∷ []) ≡ true) (acceptedRegisters rs) _ _ (λ _. refl) refl
+  act-allowed (setValue n v) = number-if (λ o. listed (o .refusal) (0 ∷ 3 ∷ 17 ∷ []) ≡ true) (given n (m .body .store .registers)) _ _ (λ _. refl) refl
+  act-allowed (setColumns cs) = number-if (λ o. listed (o .refusal) (0 ∷ 3 ∷ 18 ∷ []) ≡ true) (acceptedColumns (m .body .store .registers) cs) _ _ (λ _. refl) refl
+  act-allowed (setPeriod d) = number-if (λ o. listed (o .refusal) (0 ∷ 3 ∷ 15 ∷ []) ≡ true) (permittedPeriod d) _ _ (λ _. refl) refl
+  act-allowed (tick t) = number-if (λ o. listed (o .refusal) (0 ∷ 3 ∷ 14 ∷ []) ≡ true) (validClock t) _ _ (λ _. refl) refl
   act-allowed (setP5 f) = refl
   act-allowed powerUp = refl
 
-  -- a number of the keeping kind, and the meter is the same
+  -- a number of the keeping kind, and the outcome is that refusal
   abbrev Keeps : Outcome → Type 0
-  Keeps o = listed (o .number) keepingNumbers ≡ true → o .next ≡ m
+  Keeps o = listed (o .refusal) keepingNumbers ≡ true → o ≡ refused (o .refusal) m
 
   act-keeps : (c : Call) → Keeps (act p c m)
   unfolding act
-  act-keeps (frame a) = λ e. absurd (apart (decided p ((p .decide) (m .line) a) m .number) frameNumbers keepingNumbers refl (decided-number a) e)
+  act-keeps (frame a) = λ e. absurd (apart (decided p ((p .decide) (m .line) a) m .refusal) frameNumbers keepingNumbers refl (decided-number a) e)
   act-keeps (giveRegisters rs) = number-if Keeps (acceptedRegisters rs) _ _ (λ _ e. absurd (false≢true e)) (λ _. refl)
   act-keeps (setValue n v) = number-if Keeps (given n (m .body .store .registers)) _ _ (λ _ e. absurd (false≢true e)) (λ _. refl)
   act-keeps (setColumns cs) = number-if Keeps (acceptedColumns (m .body .store .registers) cs) _ _ (λ _ e. absurd (false≢true e)) (λ _. refl)
@@ -129,8 +129,8 @@ module _ (p : Protocol) (known-numbers : KnownNumbers p) (m : Model) where
 pub numbers-allowed : (p : Protocol) → KnownNumbers p → NumbersAllowed p
 unfolding step
 numbers-allowed p h c m =
-    number-if (λ o. listed (o .number) (numbers c) ≡ true) (eqb (early c) 0) _ _
-    (λ _. number-if (λ o. listed (o .number) (numbers c) ≡ true) (sound m) _ _ (λ _. act-allowed p h m c) (three-allowed c))
+    number-if (λ o. listed (o .refusal) (numbers c) ≡ true) (eqb (early c) 0) _ _
+    (λ _. number-if (λ o. listed (o .refusal) (numbers c) ≡ true) (sound m) _ _ (λ _. act-allowed p h m c) (three-allowed c))
     (early-allowed c)
 
 pub refusals-keep : (p : Protocol) → KnownNumbers p → RefusalsKeep p

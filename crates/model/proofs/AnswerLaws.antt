@@ -14,7 +14,7 @@ use Rattle.model.specs.declared.Register.{Register}
 use Rattle.model.specs.Limits.{longestSent, dataRoom}
 use Rattle.model.specs.Names.{sameName, given, bearing}
 use Rattle.model.specs.State.{Entry, Store, Body, withStore, withNumber, withRows}
-use Rattle.model.specs.Objects.{Plain, device, Content, plain, rows, recordNumber, register, Object, Own, clock, time, date, ownObjects, deviceObject, profileNamed, Meaning, known, unknown, amongOwn, amongRegisters, registerObject, meaning, serves, Selection, all, selected, Parameter, Service, get, action, Request, Result, granted, denied, unsigned32, nameData, plainData, rowsData, valueData, scalerData, attributeData, Picked, these, wrong, entrySelector, isEntryDescriptor, fromEntry, toEntry, fromColumn, toColumn, entriesWrong, lastEntry, rowsBetween, entries, describedEntries, selectedRows, takesSelector, fitting, shown, attributeRead, methodInvoked, afterMethod, afterAction, Turn, turned, answered, refusalOf, getAnswer, actionAnswer}
+use Rattle.model.specs.Objects.{Simple, device, Content, simple, rows, recordNumber, register, Object, Own, clock, time, date, ownObjects, deviceObject, profileNamed, Meaning, known, unknown, amongOwn, amongRegisters, registerObject, meaning, serves, Selection, all, selected, Parameter, Service, get, action, Request, Result, granted, denied, unsigned32, nameData, simpleData, rowsData, valueData, scalerData, attributeData, Picked, these, wrong, entrySelector, isEntryDescriptor, fromEntry, toEntry, fromColumn, toColumn, entriesWrong, lastEntry, rowsBetween, entries, describedEntries, selectedRows, takesSelector, fitting, shown, attributeRead, methodInvoked, afterMethod, afterAction, Turn, turned, answered, refusalOf, getAnswer, actionAnswer}
 use Rattle.model.specs.Demand3.{Chosen, hide, hideRegister, hideEntry, hideStore, hideBody, asksChosen}
 use Rattle.model.proofs.ListLaws.{map-take, map-drop}
 use Rattle.model.proofs.NameLaws.{given-bears}
@@ -49,7 +49,7 @@ near-fitting may d e l same = rw l (near-if (leb (length e) (dataRoom longestSen
 -- What a name means, and what it means where values are hidden.
 module _ (ch : Chosen) where
   abbrev hideContent : Content → Content
-  hideContent (plain x) = plain x
+  hideContent (simple x) = simple x
   hideContent rows = rows
   hideContent recordNumber = recordNumber
   hideContent (register r) = register (hideRegister ch r)
@@ -142,16 +142,16 @@ module _ (ch : Chosen) where
       go h false true i = e h i
       go h false false i = f
 
-  plain-hidden : (y : Plain) (b : Body) → plainData y b ≡ plainData y (hideBody ch b)
-  plain-hidden clock b = refl
-  plain-hidden time b = refl
-  plain-hidden date b = refl
-  plain-hidden device b = refl
+  simple-hidden : (y : Simple) (b : Body) → simpleData y b ≡ simpleData y (hideBody ch b)
+  simple-hidden clock b = refl
+  simple-hidden time b = refl
+  simple-hidden date b = refl
+  simple-hidden device b = refl
 
   -- data in which no value is shown
-  near-plain : (may : Bool) (x : Content) (n : Name) (a : ℕ) (b : Body) (rs ts : List Entry) → valueData x rs b ≡ valueData x ts (hideBody ch b)
+  near-simple : (may : Bool) (x : Content) (n : Name) (a : ℕ) (b : Body) (rs ts : List Entry) → valueData x rs b ≡ valueData x ts (hideBody ch b)
       → Near may (shown x n a b (these rs)) (shown x n a (hideBody ch b) (these ts))
-  near-plain may x n a b rs ts e = near-shown x x n a b (hideBody ch b) rs ts may (ap length e) (λ _ _. e) refl
+  near-simple may x n a b rs ts e = near-shown x x n a b (hideBody ch b) rs ts may (ap length e) (λ _ _. e) refl
 
   near-rows : (n : Name) (a : ℕ) (s : Selection) (b : Body) (w : Picked) → sameName profileNamed n ≡ true
       → Near (asksChosen ch n (get a s) (b .store)) (shown rows n a b w) (shown rows n a (hideBody ch b) (hidePicked (b .store .columns) w))
@@ -174,12 +174,12 @@ module _ (ch : Chosen) where
   content-near : (x : Content) (n : Name) (a : ℕ) (b : Body) (agreed : Bool) (s : Selection) → Tells x n (b .store .registers)
       → Near (asksChosen ch n (get a s) (b .store)) (shown x n a b (selectedRows (takesSelector x a && agreed) s (b .store .rows)))
       (shown (hideContent x) n a (hideBody ch b) (selectedRows (takesSelector (hideContent x) a && agreed) s (hideBody ch b .store .rows)))
-  content-near (plain y) n a b agreed all t = near-plain _ (plain y) n a b _ _ (plain-hidden y b)
-  content-near (plain y) n a b agreed (selected k v) t = near-equal refl
+  content-near (simple y) n a b agreed all t = near-simple _ (simple y) n a b _ _ (simple-hidden y b)
+  content-near (simple y) n a b agreed (selected k v) t = near-equal refl
   content-near rows n a b agreed s t =
       rw (selected-hidden (b .store .columns) (eqb a 2 && agreed) s (b .store .rows))
       (near-rows n a s b (selectedRows (eqb a 2 && agreed) s (b .store .rows)) t)
-  content-near recordNumber n a b agreed all t = near-plain _ recordNumber n a b _ _ refl
+  content-near recordNumber n a b agreed all t = near-simple _ recordNumber n a b _ _ refl
   content-near recordNumber n a b agreed (selected k v) t = near-equal refl
   content-near (register r) n a b agreed all t =
       near-register n a b r _ _ (t .0) (t .1) (ap (λ (x : Register). x .name) (t .2) ∙ given-bears n (b .store .registers) (t .1))
@@ -208,7 +208,7 @@ module _ (ch : Chosen) where
       (sym (registers-twice ch (b .store .registers)))
 
   method-after : (x : Content) (b : Body) → hideBody ch (afterMethod x b) ≡ hideBody ch (afterMethod (hideContent x) (hideBody ch b))
-  method-after (plain y) b = body-twice b
+  method-after (simple y) b = body-twice b
   method-after rows b = emptied-twice b
   method-after recordNumber b = body-twice (withNumber 0 b)
   method-after (register r) b = body-twice b

@@ -2,18 +2,20 @@
 use mathlib.Core.Path.{_≡_, refl, sym, _∙_, ap, ap₂}
 use mathlib.Core.Bool.{Bool, true, false, cond, _&&_, false≢true}
 use mathlib.Core.Logic.{_⊎_, inl, inr}
-use mathlib.Core.List.{List, [], _∷_, map}
-use Prim.Native.Nat.{ℕ, suc}
+use mathlib.Core.List.{List, [], _∷_, map, nil≢cons, cons≢nil, head-eq-of-cons-eq, tail-eq-of-cons-eq}
+use Prim.Native.Nat.{ℕ, suc, _+_}
+use native.Mathlib.Nat.{add-zero, zero-add, add-suc, suc-add}
+use lib.ListN.{getD}
 use lib.Dec.{eqb}
 use borrow.Author.Tests.{eqb-true}
 use Rattle.model.specs.declared.Name.{Name}
 use Rattle.model.specs.declared.Register.{Register}
-use Rattle.model.specs.Names.{sameName, given, withValue}
+use Rattle.model.specs.Names.{sameName, given, withValue, blankRegister}
 use Rattle.model.specs.State.{Line, Entry, Store, Model, withBody, withStore}
 use Rattle.model.specs.Objects.{profileNamed, Service, get, action, Request}
 use Rattle.model.specs.Calls.{Lent, Call, frame, giveRegisters, setValue, setColumns, setPeriod, tick, setP5, powerUp, Wrap, Decision, answer, serve, Protocol, KeepsLengths, trace}
 use Rattle.model.specs.Demand3.{Chosen, hide, hideRegister, hideCells, hideEntry, hidden, hiddenCall, anyChosen, asksChosen, decidesRead, reads}
-use Rattle.model.specs.Honesty.{replaceRegisters, replaceCells, replaceRows, ReplacedAlike, nothing, NothingChosen, UnchosenProfile, ChosenRead, ReadsAreChosen}
+use Rattle.model.specs.Honesty.{replaceRegisters, replaceCells, replaceRows, ReplacedAlike, valueAt, cellAt, blankEntry, AlikeReplaced, replacedCall, ReplacedCallAlike, nothing, NothingChosen, UnchosenProfile, ChosenRead, ReadsAreChosen}
 use Rattle.model.proofs.ListLaws.{both}
 use Rattle.model.proofs.HidingLaws.{rows-kept}
 use Rattle.model.proofs.Noninterference.{same-call}
@@ -46,6 +48,96 @@ replaced-alike ch v w m =
     ap₂ (λ (xs : List Register) (rs : List Entry). withBody (withStore (record { registers = xs; columns = m .body .store .columns; rows = rs }) (m .body)) m)
     (registers-replaced ch v 0 (m .body .store .registers))
     (rows-replaced ch w 0 (m .body .store .columns) (m .body .store .rows))
+
+pub replaced-call-alike : ReplacedCallAlike
+replaced-call-alike ch v (frame a) = refl
+replaced-call-alike ch v (giveRegisters rs) = ap giveRegisters (registers-replaced ch v 0 rs)
+replaced-call-alike ch v (setValue n x) = ap (setValue n) (hide-replaced (ch n) (v 0) x)
+replaced-call-alike ch v (setColumns cs) = refl
+replaced-call-alike ch v (setPeriod d) = refl
+replaced-call-alike ch v (tick t) = refl
+replaced-call-alike ch v (setP5 f) = refl
+replaced-call-alike ch v powerUp = refl
+
+-- Nothing else is alike.
+
+-- values that are hidden alike: the second is the first, or replaces it
+hidden-same : (b : Bool) (x y : ℕ) → hide b x ≡ hide b y → y ≡ cond b y x
+hidden-same true x y e = refl
+hidden-same false x y e = sym e
+
+module _ (ch : Chosen) where
+  register-back : (r s : Register) → hideRegister ch r ≡ hideRegister ch s → s ≡ withValue (cond (ch (r .name)) (s .value) (r .value)) r
+  register-back r s e =
+      let n : r .name ≡ s .name = ap (λ (x : Register). x .name) e in
+      let h : hide (ch (r .name)) (r .value) ≡ hide (ch (r .name)) (s .value) = ap (λ (x : Register). x .value) e ∙ ap (λ (m : Name). hide (ch m) (s .value)) (sym n) in
+      λ i. record {
+        name = sym n i;
+        readable = ap (λ (x : Register). x .readable) (sym e) i;
+        scaler = ap (λ (x : Register). x .scaler) (sym e) i;
+        unit = ap (λ (x : Register). x .unit) (sym e) i;
+        value = hidden-same (ch (r .name)) (r .value) (s .value) h i;
+      }
+
+  registers-back : (v : ℕ → ℕ) (i : ℕ) (rs ss : List Register) → map (hideRegister ch) rs ≡ map (hideRegister ch) ss
+      → ((k : ℕ) → v (i + k) ≡ getD ss k blankRegister .value) → ss ≡ replaceRegisters ch v i rs
+  registers-back v i [] [] e h = refl
+  registers-back v i [] (s ∷ ss) e h = absurd (nil≢cons e)
+  registers-back v i (r ∷ rs) [] e h = absurd (cons≢nil e)
+  registers-back v i (r ∷ rs) (s ∷ ss) e h =
+      ap₂ _∷_
+      (register-back r s (head-eq-of-cons-eq e) ∙ ap (λ (x : ℕ). withValue (cond (ch (r .name)) x (r .value)) r) (sym (h 0) ∙ ap v (add-zero i)))
+      (registers-back v (suc i) rs ss (tail-eq-of-cons-eq e) (λ k. ap v (suc-add i k ∙ sym (add-suc i k)) ∙ h (suc k)))
+
+  cells-back : (v : ℕ → ℕ) (j : ℕ) (cs : List Name) (xs ys : List ℕ) → hideCells ch cs xs ≡ hideCells ch cs ys
+      → ((k : ℕ) → v (j + k) ≡ getD ys k 0) → ys ≡ replaceCells ch v j cs xs
+  cells-back v j cs [] [] e h = refl
+  cells-back v j [] [] (y ∷ ys) e h = absurd (nil≢cons e)
+  cells-back v j (c ∷ cs) [] (y ∷ ys) e h = absurd (nil≢cons e)
+  cells-back v j [] (x ∷ xs) [] e h = absurd (cons≢nil e)
+  cells-back v j (c ∷ cs) (x ∷ xs) [] e h = absurd (cons≢nil e)
+  cells-back v j [] (x ∷ xs) (y ∷ ys) e h = sym e
+  cells-back v j (c ∷ cs) (x ∷ xs) (y ∷ ys) e h =
+      ap₂ _∷_
+      (hidden-same (ch c) x y (head-eq-of-cons-eq e) ∙ ap (λ (z : ℕ). cond (ch c) z x) (sym (h 0) ∙ ap v (add-zero j)))
+      (cells-back v (suc j) cs xs ys (tail-eq-of-cons-eq e) (λ k. ap v (suc-add j k ∙ sym (add-suc j k)) ∙ h (suc k)))
+
+  row-back : (v : ℕ → ℕ) (cs : List Name) (r s : Entry) → hideEntry ch cs r ≡ hideEntry ch cs s → ((k : ℕ) → v k ≡ getD (s .cells) k 0)
+      → s ≡ record { number = r .number; clock = r .clock; cells = replaceCells ch v 0 cs (r .cells) }
+  row-back v cs r s e h =
+      λ i. record {
+        number = ap (λ (x : Entry). x .number) (sym e) i;
+        clock = ap (λ (x : Entry). x .clock) (sym e) i;
+        cells = cells-back v 0 cs (r .cells) (s .cells) (ap (λ (x : Entry). x .cells) e) (λ k. ap v (zero-add k) ∙ h k) i;
+      }
+
+  rows-back : (w : ℕ → ℕ → ℕ) (i : ℕ) (cs : List Name) (rs ss : List Entry) → map (hideEntry ch cs) rs ≡ map (hideEntry ch cs) ss
+      → ((k l : ℕ) → w (i + k) l ≡ getD (getD ss k blankEntry .cells) l 0) → ss ≡ replaceRows ch w i cs rs
+  rows-back w i cs [] [] e h = refl
+  rows-back w i cs [] (s ∷ ss) e h = absurd (nil≢cons e)
+  rows-back w i cs (r ∷ rs) [] e h = absurd (cons≢nil e)
+  rows-back w i cs (r ∷ rs) (s ∷ ss) e h =
+      ap₂ _∷_ (row-back (w i) cs r s (head-eq-of-cons-eq e) (λ k. ap (λ (j : ℕ). w j k) (sym (add-zero i)) ∙ h 0 k))
+      (rows-back w (suc i) cs rs ss (tail-eq-of-cons-eq e) (λ k l. ap (λ (j : ℕ). w j l) (suc-add i k ∙ sym (add-suc i k)) ∙ h (suc k) l))
+
+pub alike-replaced : AlikeReplaced
+alike-replaced ch m₁ m₂ e =
+    let c : m₁ .body .store .columns ≡ m₂ .body .store .columns = ap (λ (m : Model). m .body .store .columns) e in
+    let rs = registers-back ch (valueAt m₂) 0 (m₁ .body .store .registers) (m₂ .body .store .registers) (ap (λ (m : Model). m .body .store .registers) e) (λ k. ap (valueAt m₂) (zero-add k)) in
+    let es =
+    rows-back ch (cellAt m₂) 0 (m₁ .body .store .columns) (m₁ .body .store .rows) (m₂ .body .store .rows)
+    (ap (λ (m : Model). m .body .store .rows) e ∙ ap (λ (cs : List Name). map (hideEntry ch cs) (m₂ .body .store .rows)) (sym c)) (λ k l. ap (λ (j : ℕ). cellAt m₂ j l) (zero-add k))
+    in
+    λ i. record {
+      line = ap (λ (m : Model). m .line) (sym e) i;
+      body = record {
+        device = ap (λ (m : Model). m .body .device) (sym e) i;
+        clock = ap (λ (m : Model). m .body .clock) (sym e) i;
+        period = ap (λ (m : Model). m .body .period) (sym e) i;
+        number = ap (λ (m : Model). m .body .number) (sym e) i;
+        store = record { registers = rs i; columns = sym c i; rows = es i };
+      };
+    }
 
 -- Nothing chosen.
 

@@ -17,7 +17,7 @@ use Rattle.model.specs.Clocks.{validClock}
 use Rattle.model.specs.Periods.{permittedPeriod, captureDue}
 use Rattle.model.specs.State.{Line, Body, Model, withBody, withClock}
 use Rattle.model.specs.Soundness.{acceptedRegisters, acceptedColumns, sound}
-use Rattle.model.specs.Objects.{Content, plain, rows, recordNumber, register, Meaning, known, unknown, meaning, Service, get, action, Request, Result, granted, denied, methodInvoked, afterMethod, afterAction, answered, turned, profileNamed}
+use Rattle.model.specs.Objects.{Content, simple, rows, recordNumber, register, Meaning, known, unknown, meaning, Service, get, action, Request, Result, granted, denied, refusalOf, methodInvoked, afterMethod, afterAction, answered, turned, profileNamed}
 use Rattle.model.specs.Calls.{Lent, Call, frame, giveRegisters, setValue, setColumns, setPeriod, tick, setP5, powerUp, Outcome, done, Wrap, Decision, answer, serve, Protocol, decided, rowNow, captured, ticked, act, early, step}
 use Rattle.model.specs.Archive.{OneMore, DueTicks, onProfile, resets, mayEmpty, RowsAfter, stay, grow, empty, RowsStay}
 use Rattle.model.proofs.ObjectLaws.{Tells, Means, meaning-tells}
@@ -55,25 +55,26 @@ module _ (p : Protocol) (m : Model) where
 
   -- the rows after an ACTION that was granted: as they were, or none, where it is on the profile
   method-rows : (c : Call) (o : Outcome) (x : Content) (n : Name) (rs : List Register) → Tells x n rs → (sameName profileNamed n ≡ true → mayEmpty p c (m .line) ≡ true)
-      → o .next .body ≡ afterMethod x (m .body) → RowsAfter p c m o
-  method-rows c o (plain y) n rs t k e = stay (ap (λ (b : Body). b .store .rows) e)
-  method-rows c o rows n rs t k e = empty (k t) (ap (λ (b : Body). b .store .rows) e)
-  method-rows c o recordNumber n rs t k e = stay (ap (λ (b : Body). b .store .rows) e)
-  method-rows c o (register r) n rs t k e = stay (ap (λ (b : Body). b .store .rows) e)
+      → o .refusal ≡ 0 → o .next .body ≡ afterMethod x (m .body) → RowsAfter p c m o
+  method-rows c o (simple y) n rs t k z e = stay (ap (λ (b : Body). b .store .rows) e)
+  method-rows c o rows n rs t k z e = empty (k t) z (ap (λ (b : Body). b .store .rows) e)
+  method-rows c o recordNumber n rs t k z e = stay (ap (λ (b : Body). b .store .rows) e)
+  method-rows c o (register r) n rs t k z e = stay (ap (λ (b : Body). b .store .rows) e)
 
   action-rows : (c : Call) (o : Outcome) (w : Meaning) (r : Result) (n : Name) (rs : List Register) → Means w n rs → (sameName profileNamed n ≡ true → mayEmpty p c (m .line) ≡ true)
-      → o .next .body ≡ afterAction w (m .body) r → RowsAfter p c m o
-  action-rows c o unknown r n rs t k e = stay (ap (λ (b : Body). b .store .rows) e)
-  action-rows c o (known x) (granted d) n rs t k e = method-rows c o (x .content) n rs t k e
-  action-rows c o (known x) (denied d) n rs t k e = stay (ap (λ (b : Body). b .store .rows) e)
+      → o .refusal ≡ refusalOf r → o .next .body ≡ afterAction w (m .body) r → RowsAfter p c m o
+  action-rows c o unknown r n rs t k z e = stay (ap (λ (b : Body). b .store .rows) e)
+  action-rows c o (known x) (granted d) n rs t k z e = method-rows c o (x .content) n rs t k z e
+  action-rows c o (known x) (denied d) n rs t k z e = stay (ap (λ (b : Body). b .store .rows) e)
 
   served-rows : (a : Lent) (q : Request) (v : Service) (w : Wrap) (l : Line) (o : Outcome) → (p .decide) (m .line) a ≡ serve q w l → q .service ≡ v
+      → o .refusal ≡ answered q (m .body) (meaning (q .client) (q .name) (m .body .store .registers)) v .refusal
       → o .next .body ≡ answered q (m .body) (meaning (q .client) (q .name) (m .body .store .registers)) v .body → RowsAfter p (frame a) m o
-  served-rows a q (get k s) w l o d e f = stay (ap (λ (b : Body). b .store .rows) f)
-  served-rows a q (action k v) w l o d e f =
+  served-rows a q (get k s) w l o d e z f = stay (ap (λ (b : Body). b .store .rows) f)
+  served-rows a q (action k v) w l o d e z f =
       action-rows (frame a) o (meaning (q .client) (q .name) (m .body .store .registers)) (methodInvoked q k v (meaning (q .client) (q .name) (m .body .store .registers)))
       (q .name) (m .body .store .registers) (meaning-tells (q .client) (q .name) (m .body .store .registers))
-      (λ h. ap resets d ∙ ap (onProfile (q .name)) e ∙ h) f
+      (λ h. ap resets d ∙ ap (onProfile (q .name)) e ∙ h) z f
 
   act-rows : (c : Call) → RowsAfter p c m (act p c m)
   unfolding act turned ticked
@@ -81,18 +82,18 @@ module _ (p : Protocol) (m : Model) where
     where
       go : (d : Decision) → (p .decide) (m .line) a ≡ d → RowsAfter p (frame a) m (decided p d m)
       go (answer s) e = stay refl
-      go (serve q w l) e = served-rows a q (q .service) w l (decided p (serve q w l) m) e refl refl
-  act-rows (giveRegisters rs) = rows-if (giveRegisters rs) (acceptedRegisters rs) _ _ (λ _. empty refl refl) (λ _. stay refl)
+      go (serve q w l) e = served-rows a q (q .service) w l (decided p (serve q w l) m) e refl refl refl
+  act-rows (giveRegisters rs) = rows-if (giveRegisters rs) (acceptedRegisters rs) _ _ (λ _. empty refl refl refl) (λ _. stay refl)
   act-rows (setValue n v) = rows-if (setValue n v) (given n (m .body .store .registers)) _ _ (λ _. stay refl) (λ _. stay refl)
-  act-rows (setColumns cs) = rows-if (setColumns cs) (acceptedColumns (m .body .store .registers) cs) _ _ (λ _. empty refl refl) (λ _. stay refl)
+  act-rows (setColumns cs) = rows-if (setColumns cs) (acceptedColumns (m .body .store .registers) cs) _ _ (λ _. empty refl refl refl) (λ _. stay refl)
   act-rows (setPeriod d) = rows-if (setPeriod d) (permittedPeriod d) _ _ (λ _. stay refl) (λ _. stay refl)
   act-rows (tick t) = rows-if (tick t) (validClock t) _ _ (λ _. go (captureDue (m .body .period) t) refl) (λ _. stay refl)
     where
       go : (b : Bool) → captureDue (m .body .period) t ≡ b → RowsAfter p (tick t) m (done (withBody (withClock t (cond b (captured t (m .body)) (m .body))) m))
-      go true e = grow t refl (let h = captured-more t (m .body) in record { rows = h .rows; kept = h .kept; number = h .number })
+      go true e = grow t refl e (let h = captured-more t (m .body) in record { rows = h .rows; kept = h .kept; number = h .number })
       go false e = stay refl
   act-rows (setP5 f) = stay refl
-  act-rows powerUp = empty refl refl
+  act-rows powerUp = empty refl refl refl
 
 pub rows-stay : (p : Protocol) → RowsStay p
 unfolding step

@@ -9,5 +9,6 @@ pub mod AnswerLaws
 pub mod Noninterference
 pub mod Honesty
 pub mod KeptRows
+pub mod RecordNumber
 pub mod StaySound
 pub mod AllowedNumbers

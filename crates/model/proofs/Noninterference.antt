@@ -18,7 +18,7 @@ use Rattle.model.specs.Periods.{permittedPeriod, captureDue}
 use Rattle.model.specs.Soundness.{acceptedRegisters, acceptedColumns, sound}
 use Rattle.model.specs.Objects.{rows, Service, get, action}
 use Rattle.model.specs.Calls.{Call, frame, giveRegisters, setValue, setColumns, setPeriod, tick, setP5, powerUp, Outcome, done, refused, Decision, answer, serve, Protocol, KeepsLengths, decided, captured, ticked, rowNow, nextNumber, withRegisters, withAssigned, withColumns, poweredLine, act, early, step, trace}
-use Rattle.model.specs.Demand3.{Chosen, hide, hideRegister, hideBody, hidden, hiddenCall, Alike, AlikeCalls, asksChosen, decidesRead, reads, SameOutcome, SameOutcomes, Demand3, Handed, Gave, seen, Run, RunDemand3}
+use Rattle.model.specs.Demand3.{Chosen, hide, hideRegister, hideBody, hidden, hiddenCall, Alike, AlikeCalls, asksChosen, decidesRead, reads, SameOutcome, SameOutcomes, TraceDemand3, Handed, Gave, seen, Run, Demand3}
 use Rattle.model.proofs.HidingLaws.{registers-twice, sound-hidden, given-hidden, assigned-hidden, accepted-hidden, columns-hidden, row-hidden, rows-pushed, rows-twice}
 use Rattle.model.proofs.AnswerLaws.{turned-close, body-twice, emptied-twice}
 
@@ -27,16 +27,16 @@ use Rattle.model.proofs.AnswerLaws.{turned-close, body-twice, emptied-t
 module _ (p : Protocol) (keeps : KeepsLengths p) (ch : Chosen) where
   -- Two outcomes: the second is that of the hidden call on the hidden meter, or of the other run.
   record Close (may : Bool) (o q : Outcome) : Type 0 where
-    number : o .number ≡ q .number
+    refusal : o .refusal ≡ q .refusal
     size : length (o .sent) ≡ length (q .sent)
-    sent : ((may ≡ true) × (o .number ≡ 0) → ⊥) → o .sent ≡ q .sent
+    sent : ((may ≡ true) × (o .refusal ≡ 0) → ⊥) → o .sent ≡ q .sent
     next : hidden ch (o .next) ≡ hidden ch (q .next)
 
   close-done : {may : Bool} (m : Model) {a b : Body} → hideBody ch a ≡ hideBody ch b → Close may (done (withBody a m)) (done (withBody b m))
-  close-done m e = record { number = refl; size = refl; sent = λ _. refl; next = ap (λ (b : Body). withBody b m) e }
+  close-done m e = record { refusal = refl; size = refl; sent = λ _. refl; next = ap (λ (b : Body). withBody b m) e }
 
   close-refused : {may : Bool} (k : ℕ) (m n : Model) → hidden ch m ≡ hidden ch n → Close may (refused k m) (refused k n)
-  close-refused k m n e = record { number = refl; size = refl; sent = λ _. refl; next = e }
+  close-refused k m n e = record { refusal = refl; size = refl; sent = λ _. refl; next = e }
 
   close-if : {may : Bool} (b : Bool) {o q o′ q′ : Outcome} → (b ≡ true → Close may o q) → Close may o′ q′ → Close may (cond b o o′) (cond b q q′)
   close-if true x y = x refl
@@ -46,11 +46,11 @@ module _ (p : Protocol) (keeps : KeepsLengths p) (ch : Chosen) where
   hidden-twice m = ap (λ (b : Body). withBody b m) (body-twice ch (m .body))
 
   decided-close : (d : Decision) (m : Model) → Close (decidesRead ch d (m .body .store)) (decided p d m) (decided p d (hidden ch m))
-  decided-close (answer s) m = record { number = refl; size = refl; sent = λ _. refl; next = hidden-twice (withLine (s .line) m) }
+  decided-close (answer s) m = record { refusal = refl; size = refl; sent = λ _. refl; next = hidden-twice (withLine (s .line) m) }
   decided-close (serve q w l) m =
       let h = turned-close ch q (m .body) in
       record {
-        number = h .refusal;
+        refusal = h .refusal;
         size = keeps l w _ _ (h .size);
         sent = λ k. ap ((p .seal) l w) (h .bytes k);
         next = ap (λ (b : Body). record { line = l; body = b }) (h .body);
@@ -100,10 +100,10 @@ module _ (p : Protocol) (keeps : KeepsLengths p) (ch : Chosen) where
   act-close (setPeriod d) m =
       close-if (permittedPeriod d) (λ _. close-done m (body-twice ch (withPeriod d (m .body)))) (close-refused 15 m (hidden ch m) (hidden-twice m))
   act-close (tick t) m = close-if (validClock t) (λ _. close-done m (ticked-close t (m .body))) (close-refused 14 m (hidden ch m) (hidden-twice m))
-  act-close (setP5 f) m = record { number = refl; size = refl; sent = λ _. refl; next = hidden-twice (withLine (withP5 f (m .line)) m) }
+  act-close (setP5 f) m = record { refusal = refl; size = refl; sent = λ _. refl; next = hidden-twice (withLine (withP5 f (m .line)) m) }
   act-close powerUp m =
       record {
-        number = refl;
+        refusal = refl;
         size = refl;
         sent = λ _. refl;
         next = ap (λ (b : Body). record { line = poweredLine (m .line); body = withNumber 0 b }) (emptied-twice ch (m .body));
@@ -144,10 +144,10 @@ module _ (p : Protocol) (keeps : KeepsLengths p) (ch : Chosen) where
         let x = act-close c₁ m₁ in
         let y = act-close c₂ m₂ in
         let z : act p (hiddenCall ch c₁) (hidden ch m₁) ≡ act p (hiddenCall ch c₂) (hidden ch m₂) = ap₂ (act p) e l in
-        let r : act p c₁ m₁ .number ≡ act p c₂ m₂ .number = x .number ∙ ap (λ (o : Outcome). o .number) z ∙ sym (y .number) in
+        let r : act p c₁ m₁ .refusal ≡ act p c₂ m₂ .refusal = x .refusal ∙ ap (λ (o : Outcome). o .refusal) z ∙ sym (y .refusal) in
         let s : reads p ch c₁ m₁ ≡ reads p ch c₂ m₂ = sym (reads-hidden c₁ m₁) ∙ ap₂ (reads p ch) e l ∙ reads-hidden c₂ m₂ in
         record {
-          number = r;
+          refusal = r;
           size = x .size ∙ ap (λ (o : Outcome). length (o .sent)) z ∙ sym (y .size);
           sent = λ k. x .sent k ∙ ap (λ (o : Outcome). o .sent) z ∙ sym (y .sent (λ h. k (s ∙ h .0, r ∙ h .1)));
           next = x .next ∙ ap (λ (o : Outcome). hidden ch (o .next)) z ∙ sym (y .next);
@@ -170,7 +170,7 @@ module _ (p : Protocol) (keeps : KeepsLengths p) (ch : Chosen) where
   pub same-call : (c₁ c₂ : Call) (m₁ m₂ : Model) → hiddenCall ch c₁ ≡ hiddenCall ch c₂ → Alike ch m₁ m₂ → SameOutcome p ch c₁ m₁ (step p c₁ m₁) (step p c₂ m₂)
   same-call c₁ c₂ m₁ m₂ e l =
       let h = step-same c₁ c₂ m₁ m₂ e l (sound-same m₁ m₂ l) in
-      record { number = h .number; size = h .size; sent = h .sent; next = h .next }
+      record { refusal = h .refusal; size = h .size; sent = h .sent; next = h .next }
 
   same-trace : (m₁ m₂ : Model) (cs₁ cs₂ : List Call) → Alike ch m₁ m₂ → AlikeCalls ch cs₁ cs₂ → SameOutcomes p ch cs₁ m₁ (trace p cs₁ m₁) (trace p cs₂ m₂)
   unfolding trace
@@ -181,9 +181,9 @@ module _ (p : Protocol) (keeps : KeepsLengths p) (ch : Chosen) where
       let h = same-call c₁ c₂ m₁ m₂ (head-eq-of-cons-eq e) l in
       (h, same-trace (step p c₁ m₁ .next) (step p c₂ m₂ .next) cs₁ cs₂ (h .next) (tail-eq-of-cons-eq e))
 
--- Demand 3, for every list of calls.
-pub demand3 : (p : Protocol) → KeepsLengths p → Demand3 p
-demand3 p keeps ch = same-trace p keeps ch
+-- Demand 3, for every list of calls as the model runs it.
+pub trace-demand3 : (p : Protocol) → KeepsLengths p → TraceDemand3 p
+trace-demand3 p keeps ch = same-trace p keeps ch
 
 -- The functions' promises.
 
@@ -192,7 +192,7 @@ module _ (Meter : Type 0) (view : Meter → Model) where
   pub seen-is : (o : Outcome) (h : Handed Meter view) → Gave Meter view o h → seen Meter view h ≡ o
   seen-is o h g =
       λ i. record {
-        number = g .number i;
+        refusal = g .refusal i;
         sent = (ap₂ take (g .count) (g .room) ∙ take-at (o .sent) (drop (length (o .sent)) (h .before)) (length (o .sent)) refl) i;
         next = g .meter i;
       }
@@ -206,7 +206,7 @@ module _ (Meter : Type 0) (view : Meter → Model) where
   run-trace p m (c ∷ cs) (h ∷ hs) x =
       ap₂ _∷_ (seen-is (step p c (view m)) h (x .0)) (run-trace p (h .meter) cs hs (x .1) ∙ ap (trace p cs) (x .0 .meter))
 
-  -- Demand 3, of whatever keeps its promises.
-  pub run-demand3 : (p : Protocol) → KeepsLengths p → RunDemand3 Meter view p
-  run-demand3 p keeps ch m₁ m₂ cs₁ cs₂ hs₁ hs₂ l e x y =
-      rw (run-trace p m₁ cs₁ hs₁ x, run-trace p m₂ cs₂ hs₂ y) (demand3 p keeps ch (view m₁) (view m₂) cs₁ cs₂ l e)
+  -- Demand 3, of functions that keep their promises.
+  pub demand3 : (p : Protocol) → KeepsLengths p → Demand3 Meter view p
+  demand3 p keeps ch m₁ m₂ cs₁ cs₂ hs₁ hs₂ l e x y =
+      rw (run-trace p m₁ cs₁ hs₁ x, run-trace p m₂ cs₂ hs₂ y) (trace-demand3 p keeps ch (view m₁) (view m₂) cs₁ cs₂ l e)

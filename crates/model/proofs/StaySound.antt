@@ -17,7 +17,7 @@ use Rattle.model.specs.Clocks.{validClock, realDate, realTime, fixedByte
 use Rattle.model.specs.Periods.{periods, permittedPeriod, captureDue}
 use Rattle.model.specs.State.{Entry, Body, Model, withLine, withBody, withStore, withRows, withClock, withNumber, withPeriod, withP5, newMeter}
 use Rattle.model.specs.Soundness.{SoundnessTest, registerList, columnList, periodPermitted, clockValid, rowClocksValid, rowCount, rowCells, associationKind, associationOnLink, agreedServices, passes, acceptedRegisters, acceptedColumns, kindsKnown, linksStand, servicesOffered, sound}
-use Rattle.model.specs.Objects.{Content, plain, rows, recordNumber, register, Meaning, known, unknown, meaning, Service, get, action, Request, Result, granted, denied, methodInvoked, afterMethod, afterAction, answered, turned}
+use Rattle.model.specs.Objects.{Content, simple, rows, recordNumber, register, Meaning, known, unknown, meaning, Service, get, action, Request, Result, granted, denied, methodInvoked, afterMethod, afterAction, answered, turned}
 use Rattle.model.specs.Calls.{Call, frame, giveRegisters, setValue, setColumns, setPeriod, tick, setP5, powerUp, Outcome, Decision, answer, serve, Protocol, decided, rowNow, captured, ticked, withRegisters, withAssigned, withColumns, act, early, step}
 use Rattle.model.specs.Archive.{NewMeterSound, soundLine, lineAfter, KeepsLines, StaysSound}
 use Rattle.model.proofs.ListLaws.{both, both-true, every-anywhere}
@@ -164,7 +164,7 @@ good-ticked t b a g = good-clock t _ a (go (captureDue (b .period) t))
     go false = g
 
 good-method : (x : Content) (b : Body) → GoodBody b → GoodBody (afterMethod x b)
-good-method (plain y) b g = g
+good-method (simple y) b g = g
 good-method rows b g = good-emptied b g
 good-method recordNumber b g = good-number 0 b g
 good-method (register r) b g = g

@@ -14,7 +14,7 @@ use Rattle.model.specs.Periods.{listed, captureDue}
 use Rattle.model.specs.State.{Line, Entry, Body, Model, newMeter}
 use Rattle.model.specs.Soundness.{kindsKnown, linksStand, servicesOffered, sound}
 use Rattle.model.specs.Objects.{profileNamed, Service, get, action}
-use Rattle.model.specs.Calls.{Lent, Call, frame, giveRegisters, setValue, setColumns, setPeriod, tick, setP5, powerUp, Outcome, Decision, answer, serve, Protocol, step}
+use Rattle.model.specs.Calls.{Lent, Call, frame, giveRegisters, setValue, setColumns, setPeriod, tick, setP5, powerUp, Outcome, refused, Decision, answer, serve, Protocol, step}
 
 -- Rows.
 
@@ -63,14 +63,43 @@ mayEmpty p (tick t) l = false
 mayEmpty p (setP5 f) l = false
 mayEmpty p powerUp l = true
 
--- what a call leaves of the rows: all of them, or all and one more in front, or none, where it is a call that may
+-- what a call leaves of the rows: all of them; or, at a due tick, one more; or none, where an accepted call may empty them
 pub data RowsAfter (p : Protocol) (c : Call) (m : Model) (o : Outcome) : Type 0 where
   stay : rowsOf (o .next) ≡ rowsOf m → RowsAfter p c m o
-  grow : (t : Clock) → c ≡ tick t → OneMore t (m .body) (o .next .body) → RowsAfter p c m o
-  empty : mayEmpty p c (m .line) ≡ true → rowsOf (o .next) ≡ [] → RowsAfter p c m o
+  grow : (t : Clock) → c ≡ tick t → captureDue (m .body .period) t ≡ true → OneMore t (m .body) (o .next .body) → RowsAfter p c m o
+  empty : mayEmpty p c (m .line) ≡ true → o .refusal ≡ 0 → rowsOf (o .next) ≡ [] → RowsAfter p c m o
 
 abbrev pub RowsStay : Protocol → Type 0
 RowsStay p = (c : Call) (m : Model) → RowsAfter p c m (step p c m)
+
+-- The record number: it stays; or it grows by one, at a due tick; or it is set to 0, by power-up or an accepted ACTION.
+
+abbrev pub isAction : Service → Bool
+isAction (get a s) = false
+isAction (action k v) = true
+
+abbrev pub acts : Decision → Bool
+acts (answer s) = false
+acts (serve q w l) = isAction (q .service)
+
+abbrev pub mayReset : Protocol → Call → Line → Bool
+mayReset p (frame a) l = acts ((p .decide) l a)
+mayReset p (giveRegisters rs) l = false
+mayReset p (setValue n v) l = false
+mayReset p (setColumns cs) l = false
+mayReset p (setPeriod d) l = false
+mayReset p (tick t) l = false
+mayReset p (setP5 f) l = false
+mayReset p powerUp l = true
+
+pub data NumberAfter (p : Protocol) (c : Call) (m : Model) (o : Outcome) : Type 0 where
+  same : o .next .body .number ≡ m .body .number → NumberAfter p c m o
+  next : (t : Clock) → c ≡ tick t → captureDue (m .body .period) t ≡ true → o .next .body .number ≡ (m .body .number + 1) % 65536 → NumberAfter p c m o
+  reset : mayReset p c (m .line) ≡ true → o .refusal ≡ 0 → o .next .body .number ≡ 0 → NumberAfter p c m o
+
+-- no "invented record number"
+abbrev pub NumberStays : Protocol → Type 0
+NumberStays p = (c : Call) (m : Model) → NumberAfter p c m (step p c m)
 
 -- Soundness.
 
@@ -99,7 +128,7 @@ abbrev pub frameNumbers : List ℕ
 frameNumbers = 0 ∷ 4 ∷ 5 ∷ 6 ∷ 7 ∷ 8 ∷ 9 ∷ 10 ∷ 11 ∷ 12 ∷ 13 ∷ []
 
 abbrev pub saidNumber : Decision → ℕ
-saidNumber (answer s) = s .number
+saidNumber (answer s) = s .refusal
 saidNumber (serve q w l) = 0
 
 abbrev pub KnownNumbers : Protocol → Type 0
@@ -117,11 +146,11 @@ numbers (setP5 f) = 0 ∷ 3 ∷ []
 numbers powerUp = 0 ∷ 3 ∷ []
 
 abbrev pub NumbersAllowed : Protocol → Type 0
-NumbersAllowed p = (c : Call) (m : Model) → listed (step p c m .number) (numbers c) ≡ true
+NumbersAllowed p = (c : Call) (m : Model) → listed (step p c m .refusal) (numbers c) ≡ true
 
--- the refusals that leave the meter as it was, whatever the protocol
+-- the refusals after which nothing goes out and the meter is unchanged, for a protocol with known numbers
 abbrev pub keepingNumbers : List ℕ
 keepingNumbers = 1 ∷ 2 ∷ 3 ∷ 14 ∷ 15 ∷ 16 ∷ 17 ∷ 18 ∷ []
 
 abbrev pub RefusalsKeep : Protocol → Type 0
-RefusalsKeep p = (c : Call) (m : Model) → listed (step p c m .number) keepingNumbers ≡ true → step p c m .next ≡ m
+RefusalsKeep p = (c : Call) (m : Model) → listed (step p c m .refusal) keepingNumbers ≡ true → step p c m ≡ refused (step p c m .refusal) m

@@ -1,6 +1,6 @@
 -- Demand 3: whoever is not granted a read of a register learns nothing of its value, over any list of calls. First what
--- the words mean, then the claim for every list of calls as the model runs it, then the claim for whatever functions hand
--- back that keep their promises.
+-- its words mean, and the claim for every list of calls as the model runs it (`TraceDemand3`); last the claim itself
+-- (`Demand3`), for any two runs of functions that keep their promises. In both, `X → ⊥` reads "not X".
 use mathlib.Core.Path.{_≡_}
 use mathlib.Core.Bool.{Bool, true, false, cond, _&&_, _||_}
 use mathlib.Core.List.{List, [], _∷_, _++_, map}
@@ -78,16 +78,19 @@ anyChosen ch [] = false
 anyChosen ch (c ∷ cs) = ch c || anyChosen ch cs
 
 -- "a value or profile is read by a GET of attribute 2": of a chosen register that is given, or of the profile while a
--- column names a chosen one. No object of the meter's own is a register.
+-- column names a chosen one. In a sound meter no register bears the name of an own object, so "the record number object is
+-- none"; an unsound meter grants no read, since it answers 3.
 abbrev pub asksChosen : Chosen → Name → Service → Store → Bool
 asksChosen ch n (get a s) st =
     eqb a 2 && cond (sameName profileNamed n) (anyChosen ch (st .columns)) (given n (st .registers) && ch n)
 asksChosen ch n (action k v) st = false
 
+-- a frame that comes to such a GET; one that the line alone answers reads nothing
 abbrev pub decidesRead : Chosen → Decision → Store → Bool
 decidesRead ch (answer s) st = false
 decidesRead ch (serve q w l) st = asksChosen ch (q .name) (q .service) st
 
+-- the call is such a frame; no other call reads
 abbrev pub reads : Protocol → Chosen → Call → Model → Bool
 reads p ch (frame a) m = decidesRead ch ((p .decide) (m .line) a) (m .body .store)
 reads p ch (giveRegisters rs) m = false
@@ -100,14 +103,14 @@ reads p ch powerUp m = false
 
 -- "a read is granted when its frame call answers 0"
 abbrev pub GrantedRead : Protocol → Chosen → Call → Model → Outcome → Type 0
-GrantedRead p ch c m o = (reads p ch c m ≡ true) × (o .number ≡ 0)
+GrantedRead p ch c m o = (reads p ch c m ≡ true) × (o .refusal ≡ 0)
 
 -- The claim.
 
 -- One call in each of two runs: the same number; what goes out equal in length and, but for a granted read, equal; the
 -- meters alike again.
 pub record SameOutcome (p : Protocol) (ch : Chosen) (c : Call) (m : Model) (o₁ o₂ : Outcome) : Type 0 where
-  pub number : o₁ .number ≡ o₂ .number
+  pub refusal : o₁ .refusal ≡ o₂ .refusal
   pub size : length (o₁ .sent) ≡ length (o₂ .sent)
   pub sent : (GrantedRead p ch c m o₁ → ⊥) → o₁ .sent ≡ o₂ .sent
   pub next : Alike ch (o₁ .next) (o₂ .next)
@@ -121,21 +124,22 @@ SameOutcomes p ch (c ∷ cs) m [] os₂ = ⊥
 SameOutcomes p ch (c ∷ cs) m (o₁ ∷ os₁) [] = ⊥
 SameOutcomes p ch (c ∷ cs) m (o₁ ∷ os₁) (o₂ ∷ os₂) = SameOutcome p ch c m o₁ o₂ × SameOutcomes p ch cs (o₁ .next) os₁ os₂
 
--- "Choose any set of registers. Take any two meters, sound or not, alike but for these. Give both the same list of calls."
-abbrev pub Demand3 : Protocol → Type 0
-Demand3 p =
+-- Any set of registers is chosen, any two meters are taken, sound or not, that are alike but for these, and both are given
+-- the same list of calls, as long as one likes.
+abbrev pub TraceDemand3 : Protocol → Type 0
+TraceDemand3 p =
     (ch : Chosen) (m₁ m₂ : Model) (cs₁ cs₂ : List Call)
     → Alike ch m₁ m₂
     → AlikeCalls ch cs₁ cs₂
     → SameOutcomes p ch cs₁ m₁ (trace p cs₁ m₁) (trace p cs₂ m₂)
 
--- The same of functions on any struct of a meter and its view.
+-- The same of functions, over the type of meters that they work on. `view` says what such a meter holds, as a `Model`.
 
 module _ (Meter : Type 0) (view : Meter → Model) where
-  -- What a call hands back: a number, how many bytes of the reply room went out, the meter; and what the reply room held
-  -- before and holds after.
+  -- What a call hands back: a refusal's number or 0, how many bytes of the reply room went out, the meter; and what the reply
+  -- room held before and holds after. An owner's call has no reply room: both are empty.
   pub record Handed : Type 0 where
-    pub number : ℕ
+    pub refusal : ℕ
     pub count : ℕ
     pub meter : Meter
     pub before : List ℕ
@@ -144,14 +148,14 @@ module _ (Meter : Type 0) (view : Meter → Model) where
   -- What is handed back is what the outcome says; "reply bytes after the frame, or all of them where nothing goes out,
   -- keep their values".
   pub record Gave (o : Outcome) (h : Handed) : Type 0 where
-    pub number : h .number ≡ o .number
+    pub refusal : h .refusal ≡ o .refusal
     pub count : h .count ≡ length (o .sent)
     pub meter : view (h .meter) ≡ o .next
     pub room : h .after ≡ o .sent ++ drop (length (o .sent)) (h .before)
 
   -- what someone sees of it: the number, the bytes that went out, and what the meter then holds
   abbrev pub seen : Handed → Outcome
-  seen h = record { number = h .number; sent = take (h .count) (h .after); next = view (h .meter) }
+  seen h = record { refusal = h .refusal; sent = take (h .count) (h .after); next = view (h .meter) }
 
 module _ (Meter : Type 0) (view : Meter → Model) (p : Protocol) where
   -- what the function behind a call promises of what it hands back: this is its `ensures`
@@ -165,9 +169,10 @@ module _ (Meter : Type 0) (view : Meter → Model) (p : Protocol) where
   Run m (c ∷ cs) [] = ⊥
   Run m (c ∷ cs) (h ∷ hs) = Promised c m h × Run (h .meter) cs hs
 
-  -- whatever the two runs hand back, and whatever their reply rooms held before
-  abbrev pub RunDemand3 : Type 0
-  RunDemand3 =
+  -- Demand 3: any set of registers, any two meters that are alike but for these, the same list of calls; whatever the two
+  -- runs hand back, and whatever their reply rooms held before
+  abbrev pub Demand3 : Type 0
+  Demand3 =
       (ch : Chosen) (m₁ m₂ : Meter) (cs₁ cs₂ : List Call) (hs₁ hs₂ : List (Handed Meter view))
       → Alike ch (view m₁) (view m₂)
       → AlikeCalls ch cs₁ cs₂

@@ -7,11 +7,12 @@ use mathlib.Core.List.{List, [], _∷_}
 use Prim.Native.Nat.{ℕ, suc}
 use Rattle.model.specs.declared.Name.{Name}
 use Rattle.model.specs.declared.Register.{Register}
-use Rattle.model.specs.Names.{sameName, given, withValue}
+use lib.ListN.{getD}
+use Rattle.model.specs.Names.{sameName, given, withValue, blankRegister}
 use Rattle.model.specs.State.{Line, Entry, Store, Model, withBody, withStore}
 use Rattle.model.specs.Objects.{profileNamed, Selection, get, Request}
-use Rattle.model.specs.Calls.{Lent, Call, frame, Wrap, serve, Protocol, step, trace}
-use Rattle.model.specs.Demand3.{Chosen, Alike, AlikeCalls, anyChosen, reads}
+use Rattle.model.specs.Calls.{Lent, Call, frame, giveRegisters, setValue, setColumns, setPeriod, tick, setP5, powerUp, Wrap, serve, Protocol, step, trace}
+use Rattle.model.specs.Demand3.{Chosen, hiddenCall, Alike, AlikeCalls, anyChosen, reads}
 
 -- The chosen values and the cells recorded from them, replaced by arbitrary numbers: v gives one for each register's place,
 -- w for each row's and cell's, places counted from i and j.
@@ -44,6 +45,35 @@ replaced ch v w m = withBody (withStore (replaceStore ch v w (m .body .store)) (
 -- Every meter is alike to itself with those numbers replaced.
 abbrev pub ReplacedAlike : Type 0
 ReplacedAlike = (ch : Chosen) (v : ℕ → ℕ) (w : ℕ → ℕ → ℕ) (m : Model) → Alike ch m (replaced ch v w m)
+
+-- And nothing else is alike: a meter that is alike to another is that other with those numbers replaced by its own.
+
+abbrev pub valueAt : Model → ℕ → ℕ
+valueAt m i = getD (m .body .store .registers) i blankRegister .value
+
+abbrev pub blankEntry : Entry
+blankEntry = record { number = 0; clock = record { bytes = [] }; cells = [] }
+
+abbrev pub cellAt : Model → ℕ → ℕ → ℕ
+cellAt m i j = getD (getD (m .body .store .rows) i blankEntry .cells) j 0
+
+abbrev pub AlikeReplaced : Type 0
+AlikeReplaced = (ch : Chosen) (m₁ m₂ : Model) → Alike ch m₁ m₂ → m₂ ≡ replaced ch (valueAt m₂) (cellAt m₂) m₁
+
+-- Calls that differ in arbitrary numbers given or set for chosen registers are alike.
+
+abbrev pub replacedCall : Chosen → (v : ℕ → ℕ) → Call → Call
+replacedCall ch v (frame a) = frame a
+replacedCall ch v (giveRegisters rs) = giveRegisters (replaceRegisters ch v 0 rs)
+replacedCall ch v (setValue n x) = setValue n (cond (ch n) (v 0) x)
+replacedCall ch v (setColumns cs) = setColumns cs
+replacedCall ch v (setPeriod d) = setPeriod d
+replacedCall ch v (tick t) = tick t
+replacedCall ch v (setP5 f) = setP5 f
+replacedCall ch v powerUp = powerUp
+
+abbrev pub ReplacedCallAlike : Type 0
+ReplacedCallAlike = (ch : Chosen) (v : ℕ → ℕ) (c : Call) → hiddenCall ch c ≡ hiddenCall ch (replacedCall ch v c)
 
 -- Where nothing is chosen, all outcomes are equal.
 abbrev pub nothing : Chosen

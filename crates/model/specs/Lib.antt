@@ -4,8 +4,8 @@ pub mod Clocks
 pub mod Periods
 pub mod Services
 pub mod State
-pub mod Soundness
 pub mod Objects
+pub mod Soundness
 pub mod Calls
 pub mod Demand3
 pub mod Honesty

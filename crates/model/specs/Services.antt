@@ -18,9 +18,21 @@ common [] os = []
 common (a ∷ xs) [] = []
 common (a ∷ xs) (o ∷ os) = bitAnd a o ∷ common xs os
 
--- the first services lie within the second: each bit that is set there is set here
+-- each bit that is set in the first is set in the second
 unfoldable pub within : List ℕ → List ℕ → Bool
 within [] [] = true
 within [] (o ∷ os) = false
 within (a ∷ xs) [] = false
 within (a ∷ xs) (o ∷ os) = eqb (bitAnd a o) a && within xs os
+
+-- The bits: "GET or ACTION without its agreed bit", "selective access agreed". A service is agreed where its bit lies within
+-- the agreed services.
+
+abbrev pub getService : List ℕ
+getService = 0x00 ∷ 0x00 ∷ 0x10 ∷ []
+
+abbrev pub selectiveAccess : List ℕ
+selectiveAccess = 0x00 ∷ 0x00 ∷ 0x04 ∷ []
+
+abbrev pub actionService : List ℕ
+actionService = 0x00 ∷ 0x00 ∷ 0x01 ∷ []

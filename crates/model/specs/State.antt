@@ -10,8 +10,8 @@ use Rattle.model.specs.declared.Counters.{Counters}
 
 -- The line.
 
--- An association carries what it holds, so that one that has ended holds nothing. The dedicated key of a client without
--- ciphering is the empty list.
+-- An association carries what it holds, so that one that has ended holds nothing: agreed services of three bytes, a
+-- dedicated key of 16, challenges of 8. A client without ciphering has no dedicated key: the empty list.
 pub data Association : Type 0 where
   none : Association
   -- agreed services, dedicated key, the client's challenge, the meter's challenge
@@ -19,7 +19,7 @@ pub data Association : Type 0 where
   -- agreed services, dedicated key
   associated : (agreed key : List ℕ) → Association
 
--- A client as the meter knows it: its title, whether its link is up, its association.
+-- A client as the meter knows it: its title of 8 bytes, whether its link is up, its association.
 pub record Peer : Type 0 where
   pub title : List ℕ
   pub up : Bool
@@ -51,7 +51,7 @@ pub record Store : Type 0 where
   pub columns : List Name
   pub rows : List Entry
 
--- The device name, the clock, the capture period, the record number, and the store.
+-- The device name of 16 bytes, the clock, the capture period in seconds, the record number, and the store.
 pub record Body : Type 0 where
   pub device : List ℕ
   pub clock : Clock
@@ -59,6 +59,7 @@ pub record Body : Type 0 where
   pub number : ℕ
   pub store : Store
 
+-- What a meter holds.
 pub record Model : Type 0 where
   pub line : Line
   pub body : Body

@@ -1,4 +1,4 @@
-// The types that the model of a meter shares with the code: the clients, and structs without counts. There are no
+// The types that the model of a meter shares with the code: the clients, names, clocks, registers and counters. There are no
 // functions: what a meter holds and does is defined in specs/, and demand 3 is proved over it in proofs/.
 
 // The clients of the link: "V" and "H" of document 01.

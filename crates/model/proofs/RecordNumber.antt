@@ -1,0 +1,61 @@
+-- The record number is never invented: the statement on it of specs/Archive, proved.
+use mathlib.Core.Path.{_≡_, refl, _∙_, ap}
+use mathlib.Core.Bool.{Bool, true, false, cond}
+use lib.Dec.{eqb}
+use Rattle.model.specs.Names.{given}
+use Rattle.model.specs.Clocks.{validClock}
+use Rattle.model.specs.Periods.{permittedPeriod, captureDue}
+use Rattle.model.specs.State.{Line, Body, Model, withBody, withClock}
+use Rattle.model.specs.Soundness.{acceptedRegisters, acceptedColumns, sound}
+use Rattle.model.specs.Objects.{Content, simple, rows, recordNumber, register, Meaning, known, unknown, meaning, Service, get, action, Request, Result, granted, denied, refusalOf, methodInvoked, afterMethod, afterAction, answered, turned}
+use Rattle.model.specs.Calls.{Lent, Call, frame, giveRegisters, setValue, setColumns, setPeriod, tick, setP5, powerUp, Outcome, done, Wrap, Decision, answer, serve, Protocol, decided, captured, ticked, act, early, step}
+use Rattle.model.specs.Archive.{isAction, acts, mayReset, NumberAfter, same, next, reset, NumberStays}
+
+module _ (p : Protocol) (m : Model) where
+  number-if : (c : Call) (b : Bool) (o q : Outcome) → (b ≡ true → NumberAfter p c m o) → (b ≡ false → NumberAfter p c m q) → NumberAfter p c m (cond b o q)
+  number-if c true o q x y = x refl
+  number-if c false o q x y = y refl
+
+  -- after an ACTION: as it was, or 0 where it was granted
+  method-number : (c : Call) (o : Outcome) (x : Content) → mayReset p c (m .line) ≡ true → o .refusal ≡ 0 → o .next .body ≡ afterMethod x (m .body) → NumberAfter p c m o
+  method-number c o (simple y) k z e = same (ap (λ (b : Body). b .number) e)
+  method-number c o rows k z e = same (ap (λ (b : Body). b .number) e)
+  method-number c o recordNumber k z e = reset k z (ap (λ (b : Body). b .number) e)
+  method-number c o (register r) k z e = same (ap (λ (b : Body). b .number) e)
+
+  action-number : (c : Call) (o : Outcome) (w : Meaning) (r : Result) → mayReset p c (m .line) ≡ true → o .refusal ≡ refusalOf r → o .next .body ≡ afterAction w (m .body) r → NumberAfter p c m o
+  action-number c o unknown r k z e = same (ap (λ (b : Body). b .number) e)
+  action-number c o (known x) (granted d) k z e = method-number c o (x .content) k z e
+  action-number c o (known x) (denied d) k z e = same (ap (λ (b : Body). b .number) e)
+
+  served-number : (a : Lent) (q : Request) (v : Service) (u : Meaning) (w : Wrap) (l : Line) (o : Outcome) → (p .decide) (m .line) a ≡ serve q w l → q .service ≡ v
+      → o .refusal ≡ answered q (m .body) u v .refusal → o .next .body ≡ answered q (m .body) u v .body → NumberAfter p (frame a) m o
+  served-number a q (get k s) u w l o d e z f = same (ap (λ (b : Body). b .number) f)
+  served-number a q (action k v) u w l o d e z f = action-number (frame a) o u (methodInvoked q k v u) (ap acts d ∙ ap isAction e) z f
+
+  act-number : (c : Call) → NumberAfter p c m (act p c m)
+  unfolding act turned ticked captured
+  act-number (frame a) = go ((p .decide) (m .line) a) refl
+    where
+      go : (d : Decision) → (p .decide) (m .line) a ≡ d → NumberAfter p (frame a) m (decided p d m)
+      go (answer s) e = same refl
+      go (serve q w l) e =
+          served-number a q (q .service) (meaning (q .client) (q .name) (m .body .store .registers)) w l (decided p (serve q w l) m) e refl refl refl
+  act-number (giveRegisters rs) = number-if (giveRegisters rs) (acceptedRegisters rs) _ _ (λ _. same refl) (λ _. same refl)
+  act-number (setValue n v) = number-if (setValue n v) (given n (m .body .store .registers)) _ _ (λ _. same refl) (λ _. same refl)
+  act-number (setColumns cs) = number-if (setColumns cs) (acceptedColumns (m .body .store .registers) cs) _ _ (λ _. same refl) (λ _. same refl)
+  act-number (setPeriod d) = number-if (setPeriod d) (permittedPeriod d) _ _ (λ _. same refl) (λ _. same refl)
+  act-number (tick t) = number-if (tick t) (validClock t) _ _ (λ _. go (captureDue (m .body .period) t) refl) (λ _. same refl)
+    where
+      go : (b : Bool) → captureDue (m .body .period) t ≡ b → NumberAfter p (tick t) m (done (withBody (withClock t (cond b (captured t (m .body)) (m .body))) m))
+      go true e = next t refl e refl
+      go false e = same refl
+  act-number (setP5 f) = same refl
+  act-number powerUp = reset refl refl refl
+
+pub number-stays : (p : Protocol) → NumberStays p
+unfolding step
+number-stays p c m =
+    number-if p m c (eqb (early c) 0) _ _
+    (λ _. number-if p m c (sound m) _ _ (λ _. act-number p m c) (λ _. same refl))
+    (λ _. same refl)
