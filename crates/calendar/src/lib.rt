@@ -149,7 +149,7 @@ fn is_between(low: u32, high: u32, n: u32) -> bool
 }
 
 fn wide(b: u8) -> u32
-    ensures { λ r. ⌜ r ≡ b ⌝ }
+    ensures { λ r. ⌜ (r ≡ b) × (r < 256) ⌝ }
 {
     b as u32
 }
