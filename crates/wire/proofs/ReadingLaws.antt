@@ -12,7 +12,7 @@ use lib.ListN.{length, take, drop, getD, length-drop}
 use lib.Seq.{length-take-le, getD-drop}
 use borrow.Author.Tests.{le-leb, lt-leb, leb-true}
 use Rattle.wire.specs.Numbers.{highFirst, numberHigh}
-use Rattle.wire.specs.Reading.{expected, numberAt, part, sameBytes, skipped}
+use Rattle.wire.specs.Reading.{expected, filled, numberAt, part, sameBytes, skipped}
 use Rattle.wire.specs.Wrote.{Wrote}
 use Rattle.wire.specs.declared.End.the-variants.{At, Bad}
 use Rattle.wire.specs.declared.Field.the-variants.{Found, Missing}
@@ -54,6 +54,22 @@ module _ (s : List ℕ) (at n : ℕ) where
   pub number-cut : length s < at + n → numberAt n s at ≡ Missing
   unfolding numberAt
   number-cut h = rw (skip-cut h)
+
+-- a buffer that is filled, or stays as it was
+module _ (s : List ℕ) (at : ℕ) (l : List ℕ) where
+  pub fill-here : at + length l ≤ length s → filled s at l ≡ take (length l) (drop at s)
+  unfolding filled
+  fill-here h = rw (le-leb (at + length l) (length s) h)
+
+  pub fill-cut : length s < at + length l → filled s at l ≡ l
+  unfolding filled
+  fill-cut h = rw (lt-leb (at + length l) (length s) h)
+
+  pub length-filled : length (filled s at l) ≡ length l
+  length-filled =
+      by-order (at + length l) (length s)
+      (λ h. ap length (fill-here h) ∙ length-take-le (length l) (drop at s) (simp length-drop (omega arith)))
+      (λ h. ap length (fill-cut h))
 
 -- the part of n bytes from a on
 pub part-of : (a n : ℕ) (s : List ℕ) → part a (a + n) s ≡ take n (drop a s)

@@ -1,10 +1,10 @@
 -- Laws of writing, over any buffer, place and bytes: how writes join, what stands afterwards, what stays as it was.
 use mathlib.Core.Path.{_≡_, refl, sym, ap, _∙_}
-use mathlib.Core.List.{List, [], _∷_, _++_, append-assoc}
+use mathlib.Core.List.{List, [], _∷_, _++_, append-assoc, append-nil}
 use Prim.Native.Nat.{ℕ, _+_, _-_, _≤_}
 use native.Mathlib.Nat.{add-zero}
 use native.Mathlib.Omega.{arith}
-use lib.ListN.{length, take, drop, set, length-append, length-drop, length-set, take-append-drop}
+use lib.ListN.{length, take, drop, set, length-append, length-drop, drop-of-length-le, take-append-drop}
 use lib.Seq.{take-at, drop-at, length-take-le, drop-drop, sets, sets-eq, length-sets, paste, take-length, take-add}
 use Rattle.wire.specs.Wrote.{over, Wrote}
 
@@ -129,6 +129,12 @@ module _ {l m : List ℕ} {a b : ℕ} {bs : List ℕ} (w : Wrote l a m b bs) whe
 pub whole : {l m : List ℕ} {r : ℕ} {bs : List ℕ} → Wrote l 0 m r bs → m ≡ bs ++ drop r l
 unfolding over
 whole w = rw (w .next) (w .is)
+
+-- a write of as many bytes as the buffer has: nothing else is left in it
+pub full : {l m : List ℕ} {r : ℕ} {bs : List ℕ} → Wrote l 0 m r bs → length l ≤ length bs → m ≡ bs
+full {l} {m} {r} {bs} w h =
+    let k : length l ≤ r = omega (arith, w .next) in
+    whole w ∙ ap (λ (t : List ℕ). bs ++ t) (drop-of-length-le l k) ∙ append-nil bs
 
 -- a stretch of what was written stands at its own place
 pub inside : {l m : List ℕ} {a b : ℕ} (xs ys zs : List ℕ) → Wrote l a m b (xs ++ ys ++ zs) → take (length ys) (drop (a + length xs) m) ≡ ys
