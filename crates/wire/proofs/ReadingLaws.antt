@@ -55,22 +55,6 @@ module _ (s : List ℕ) (at n : ℕ) where
   unfolding numberAt
   number-cut h = rw (skip-cut h)
 
--- a buffer that is filled, or stays as it was
-module _ (s : List ℕ) (at : ℕ) (l : List ℕ) where
-  pub fill-here : at + length l ≤ length s → filled s at l ≡ take (length l) (drop at s)
-  unfolding filled
-  fill-here h = rw (le-leb (at + length l) (length s) h)
-
-  pub fill-cut : length s < at + length l → filled s at l ≡ l
-  unfolding filled
-  fill-cut h = rw (lt-leb (at + length l) (length s) h)
-
-  pub length-filled : length (filled s at l) ≡ length l
-  length-filled =
-      by-order (at + length l) (length s)
-      (λ h. ap length (fill-here h) ∙ length-take-le (length l) (drop at s) (simp length-drop (omega arith)))
-      (λ h. ap length (fill-cut h))
-
 -- the part of n bytes from a on
 pub part-of : (a n : ℕ) (s : List ℕ) → part a (a + n) s ≡ take n (drop a s)
 part-of a n s = rw (add-sub-cancel-left a n)
@@ -131,6 +115,30 @@ module _ (s : List ℕ) (at : ℕ) {e : ℕ} where
       let p : at + length bs ≡ e = let u = t .1 in cc in
       record { next = sym p; within = omega arith; stands = sym (part-of at (length bs) s) ∙ same-equal (part at (at + length bs) s) bs (t .0) })
       (λ h. absurd (bad-never (sym (expect-cut s at bs h) ∙ q)))
+
+-- a buffer that is filled, or stays as it was
+module _ (s : List ℕ) (at : ℕ) (l : List ℕ) where
+  pub fill-here : at + length l ≤ length s → filled s at l ≡ take (length l) (drop at s)
+  unfolding filled
+  fill-here h = rw (le-leb (at + length l) (length s) h)
+
+  pub fill-cut : length s < at + length l → filled s at l ≡ l
+  unfolding filled
+  fill-cut h = rw (lt-leb (at + length l) (length s) h)
+
+  pub length-filled : length (filled s at l) ≡ length l
+  length-filled =
+      by-order (at + length l) (length s)
+      (λ h. ap length (fill-here h) ∙ length-take-le (length l) (drop at s) (simp length-drop (omega arith)))
+      (λ h. ap length (fill-cut h))
+
+  -- by what the filling gave: the bytes that stand there, or the buffer as it was
+  pub fill-found : {e : ℕ} → skipped s at (length l) ≡ At e → filled s at l ≡ take (length l) (drop at s)
+  fill-found q = let r = skip-read s at (length l) q in fill-here (omega arith)
+
+  pub fill-kept : skipped s at (length l) ≡ Bad → filled s at l ≡ l
+  fill-kept q =
+      by-order (at + length l) (length s) (λ h. absurd (bad-never (sym q ∙ skip-here s at (length l) h))) fill-cut
 
 -- a number of w bytes that was read is below 256 ^ w
 pub number-small : (w : ℕ) (s : List ℕ) (at : ℕ) {v e : ℕ} → Bytes s → ReadNumber w s at v e → v < 256 ^ w
