@@ -8,6 +8,10 @@ use lib.ListN.{length, take, drop, set, length-append, length-drop, drop-of-leng
 use lib.Seq.{take-at, drop-at, length-take-le, drop-drop, sets, sets-eq, length-sets, paste, take-length, take-add}
 use Rattle.wire.specs.Wrote.{over, Wrote}
 
+-- a stretch that lies within a list has its length
+pub length-stretch : (l : List ℕ) (a k : ℕ) → a + k ≤ length l → length (take k (drop a l)) ≡ k
+length-stretch l a k h = length-take-le k (drop a l) (simp length-drop (omega arith))
+
 module _ (l : List ℕ) (a : ℕ) (bs : List ℕ) (h : a + length bs ≤ length l) where
   length-head : length (take a l ++ bs) ≡ a + length bs
   length-head = simp (length-append, length-take-le a l (omega arith))
@@ -62,7 +66,7 @@ stored l a b h = run l a (b ∷ []) h
 pub stands : (l : List ℕ) (a k : ℕ) → a + k ≤ length l → Wrote l a l (a + k) (take k (drop a l))
 unfolding over
 stands l a k h =
-    let n : length (take k (drop a l)) ≡ k = length-take-le k (drop a l) (simp length-drop (omega arith)) in
+    let n : length (take k (drop a l)) ≡ k = length-stretch l a k h in
     record {
       is = sym (ap (λ (j : ℕ). take a l ++ take k (drop a l) ++ drop (a + j) l) n ∙ ap (λ (t : List ℕ). t ++ drop (a + k) l) (sym (take-add a k l)) ∙ take-append-drop (a + k) l);
       next = omega arith;
@@ -86,7 +90,7 @@ copied l a s m i h p q e =
 pub lent : (l : List ℕ) (a e : ℕ) (ys : List ℕ) → a ≤ e → e ≤ length l → length ys ≡ length (take (e - a) (drop a l)) → take a l ++ (ys ++ drop (e - a) (drop a l)) ≡ over l a ys
 unfolding over
 lent l a e ys h k q =
-    let n : length ys ≡ e - a = q ∙ length-take-le (e - a) (drop a l) (simp length-drop (omega arith)) in
+    let n : length ys ≡ e - a = q ∙ length-stretch l a (e - a) (omega arith) in
     rw (n, drop-drop, append-assoc)
 
 module _ {l m : List ℕ} {a b : ℕ} {bs : List ℕ} (w : Wrote l a m b bs) where

@@ -1,11 +1,10 @@
 -- `wire::read::fill_at` meets its contract: a copy of as many bytes as the buffer has is all that it then holds.
-use mathlib.Core.Path.{_≡_, sym, ap, _∙_}
+use mathlib.Core.Path.{_≡_, sym, _∙_}
 use native.Mathlib.Omega.{arith}
-use lib.ListN.{length, take, drop, length-drop}
-use lib.Seq.{length-take-le}
+use lib.ListN.{length, take, drop}
 use borrow.Author.Needs.{needs}
 use Rattle.wire.proofs.ReadingLaws.{fill-here, fill-cut, skip-here, skip-cut, part-of}
-use Rattle.wire.proofs.WroteLaws.{full}
+use Rattle.wire.proofs.WroteLaws.{full, length-stretch}
 use Rattle.wire.proofs.read.fill_at.Statement.{statement}
 use Rattle.wire.proofs.read.fill_at.Tie as tie
 
@@ -32,7 +31,7 @@ returns-3 c =
     let at = a .at in
     let l = a .out .now in
     let w = rw (part-of at (length l) s) at (c .before .before .put-all .ensures) in
-    let n : length (take (length l) (drop at s)) ≡ length l = length-take-le (length l) (drop at s) (simp length-drop (omega arith)) in
+    let n : length (take (length l) (drop at s)) ≡ length l = length-stretch s at (length l) (omega arith) in
     record { is = full w (omega arith) ∙ sym (fill-here s at l (omega arith)); next = sym (skip-here s at (length l) (omega arith)) }
 
 pub fill-at-spec : {M : Type 1} → statement M
