@@ -8,18 +8,19 @@ use native.Mathlib.Nat.{add-sub-cancel-left, lt-of-not-le, mod-eq-of-lt}
 use native.Mathlib.Decide.{decLe}
 use native.Mathlib.Omega.{arith}
 use lib.Dec.{leb}
-use lib.ListN.{length, take, drop, getD, length-drop}
-use lib.Seq.{length-take-le, getD-drop}
+use lib.ListN.{length, take, drop}
+use lib.Seq.{getD-drop}
 use borrow.Author.Tests.{le-leb, lt-leb, leb-true}
 use Rattle.wire.specs.Numbers.{highFirst, numberHigh}
-use Rattle.wire.specs.Reading.{expected, numberAt, part, sameBytes, skipped}
+use Rattle.wire.specs.Reading.{expected, filled, numberAt, part, sameBytes, skipped}
 use Rattle.wire.specs.Wrote.{Wrote}
 use Rattle.wire.specs.declared.End.the-variants.{At, Bad}
 use Rattle.wire.specs.declared.Field.the-variants.{Found, Missing}
 use Rattle.wire.proofs.NumberLaws.{Bytes, no-bytes, number-below, high-number, high-bytes, length-high}
 use Rattle.wire.proofs.SameLaws.{same-equal}
-use Rattle.wire.proofs.WroteLaws.{there}
+use Rattle.wire.proofs.WroteLaws.{length-stretch, there}
 
+-- by whether a number is at most another
 pub by-order : {P : Type 0} (m n : ℕ) → (m ≤ n → P) → (n < m → P) → P
 by-order {P} m n f g = go (decLe m n)
   where
@@ -116,16 +117,40 @@ module _ (s : List ℕ) (at : ℕ) {e : ℕ} where
       record { next = sym p; within = omega arith; stands = sym (part-of at (length bs) s) ∙ same-equal (part at (at + length bs) s) bs (t .0) })
       (λ h. absurd (bad-never (sym (expect-cut s at bs h) ∙ q)))
 
+-- a buffer that is filled, or stays as it was
+module _ (s : List ℕ) (at : ℕ) (l : List ℕ) where
+  pub fill-here : at + length l ≤ length s → filled s at l ≡ take (length l) (drop at s)
+  unfolding filled
+  fill-here h = rw (le-leb (at + length l) (length s) h)
+
+  pub fill-cut : length s < at + length l → filled s at l ≡ l
+  unfolding filled
+  fill-cut h = rw (lt-leb (at + length l) (length s) h)
+
+  pub length-filled : length (filled s at l) ≡ length l
+  length-filled =
+      by-order (at + length l) (length s)
+      (λ h. ap length (fill-here h) ∙ length-stretch s at (length l) h)
+      (λ h. ap length (fill-cut h))
+
+  -- by what the filling gave: the bytes that stand there, or the buffer as it was
+  pub fill-found : {e : ℕ} → skipped s at (length l) ≡ At e → filled s at l ≡ take (length l) (drop at s)
+  fill-found q = let r = skip-read s at (length l) q in fill-here (omega arith)
+
+  pub fill-kept : skipped s at (length l) ≡ Bad → filled s at l ≡ l
+  fill-kept q =
+      by-order (at + length l) (length s) (λ h. absurd (bad-never (sym q ∙ skip-here s at (length l) h))) fill-cut
+
 -- a number of w bytes that was read is below 256 ^ w
 pub number-small : (w : ℕ) (s : List ℕ) (at : ℕ) {v e : ℕ} → Bytes s → ReadNumber w s at v e → v < 256 ^ w
 number-small w s at k r =
-    let n : length (take w (drop at s)) ≡ w = length-take-le w (drop at s) (simp length-drop (omega arith)) in
+    let n : length (take w (drop at s)) ≡ w = length-stretch s at w (omega arith) in
     rw (r .value) (rw n at (number-below (take w (drop at s)) (part-bytes s at w k)))
 
 -- the bytes of a number that was read are those that stand there
 pub number-bytes : (w : ℕ) (s : List ℕ) (at : ℕ) {v e : ℕ} → Bytes s → ReadNumber w s at v e → take w (drop at s) ≡ highFirst w v
 number-bytes w s at k r =
-    let n : length (take w (drop at s)) ≡ w = length-take-le w (drop at s) (simp length-drop (omega arith)) in
+    let n : length (take w (drop at s)) ≡ w = length-stretch s at w (omega arith) in
     rw (r .value) (sym (rw n at (high-bytes (take w (drop at s)) (part-bytes s at w k))))
 
 -- bytes that stand there are read as the number that they are of

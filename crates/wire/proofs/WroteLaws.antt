@@ -1,12 +1,16 @@
 -- Laws of writing, over any buffer, place and bytes: how writes join, what stands afterwards, what stays as it was.
 use mathlib.Core.Path.{_≡_, refl, sym, ap, _∙_}
-use mathlib.Core.List.{List, [], _∷_, _++_, append-assoc}
+use mathlib.Core.List.{List, [], _∷_, _++_, append-assoc, append-nil}
 use Prim.Native.Nat.{ℕ, _+_, _-_, _≤_}
 use native.Mathlib.Nat.{add-zero}
 use native.Mathlib.Omega.{arith}
-use lib.ListN.{length, take, drop, set, length-append, length-drop, length-set, take-append-drop}
+use lib.ListN.{length, take, drop, set, length-append, length-drop, drop-of-length-le, take-append-drop}
 use lib.Seq.{take-at, drop-at, length-take-le, drop-drop, sets, sets-eq, length-sets, paste, take-length, take-add}
 use Rattle.wire.specs.Wrote.{over, Wrote}
+
+-- a stretch that lies within a list has its length
+pub length-stretch : (l : List ℕ) (a k : ℕ) → a + k ≤ length l → length (take k (drop a l)) ≡ k
+length-stretch l a k h = length-take-le k (drop a l) (simp length-drop (omega arith))
 
 module _ (l : List ℕ) (a : ℕ) (bs : List ℕ) (h : a + length bs ≤ length l) where
   length-head : length (take a l ++ bs) ≡ a + length bs
@@ -62,7 +66,7 @@ stored l a b h = run l a (b ∷ []) h
 pub stands : (l : List ℕ) (a k : ℕ) → a + k ≤ length l → Wrote l a l (a + k) (take k (drop a l))
 unfolding over
 stands l a k h =
-    let n : length (take k (drop a l)) ≡ k = length-take-le k (drop a l) (simp length-drop (omega arith)) in
+    let n : length (take k (drop a l)) ≡ k = length-stretch l a k h in
     record {
       is = sym (ap (λ (j : ℕ). take a l ++ take k (drop a l) ++ drop (a + j) l) n ∙ ap (λ (t : List ℕ). t ++ drop (a + k) l) (sym (take-add a k l)) ∙ take-append-drop (a + k) l);
       next = omega arith;
@@ -86,7 +90,7 @@ copied l a s m i h p q e =
 pub lent : (l : List ℕ) (a e : ℕ) (ys : List ℕ) → a ≤ e → e ≤ length l → length ys ≡ length (take (e - a) (drop a l)) → take a l ++ (ys ++ drop (e - a) (drop a l)) ≡ over l a ys
 unfolding over
 lent l a e ys h k q =
-    let n : length ys ≡ e - a = q ∙ length-take-le (e - a) (drop a l) (simp length-drop (omega arith)) in
+    let n : length ys ≡ e - a = q ∙ length-stretch l a (e - a) (omega arith) in
     rw (n, drop-drop, append-assoc)
 
 module _ {l m : List ℕ} {a b : ℕ} {bs : List ℕ} (w : Wrote l a m b bs) where
@@ -129,6 +133,12 @@ module _ {l m : List ℕ} {a b : ℕ} {bs : List ℕ} (w : Wrote l a m b bs) whe
 pub whole : {l m : List ℕ} {r : ℕ} {bs : List ℕ} → Wrote l 0 m r bs → m ≡ bs ++ drop r l
 unfolding over
 whole w = rw (w .next) (w .is)
+
+-- a write of as many bytes as the buffer has: nothing else is left in it
+pub full : {l m : List ℕ} {r : ℕ} {bs : List ℕ} → Wrote l 0 m r bs → length l ≤ length bs → m ≡ bs
+full {l} {m} {r} {bs} w h =
+    let k : length l ≤ r = omega (arith, w .next) in
+    whole w ∙ ap (λ (t : List ℕ). bs ++ t) (drop-of-length-le l k) ∙ append-nil bs
 
 -- a stretch of what was written stands at its own place
 pub inside : {l m : List ℕ} {a b : ℕ} (xs ys zs : List ℕ) → Wrote l a m b (xs ++ ys ++ zs) → take (length ys) (drop (a + length xs) m) ≡ ys

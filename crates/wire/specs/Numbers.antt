@@ -23,6 +23,6 @@ numberLow (b ∷ bs) = numberLow bs * 256 + b
 abbrev pub numberHigh : List ℕ → ℕ
 numberHigh bs = numberLow (reverse bs)
 
--- a length in the "shortest form": one byte below 128; 81 and one byte below 256; 82 and two bytes
+-- a length in the "shortest form": one byte below 128; 81 and one byte below 256; 82 and two bytes up to 65535
 unfoldable pub lengthField : ℕ → List ℕ
 lengthField n = cond (ltb n 128) (n ∷ []) (cond (ltb n 256) (0x81 ∷ n ∷ []) (0x82 ∷ highFirst 2 n))

@@ -6,6 +6,7 @@ mod write;
 
 pub use read::byte_at;
 pub use read::expect_at;
+pub use read::fill_at;
 pub use read::length_at;
 pub use read::same;
 pub use read::skip_at;

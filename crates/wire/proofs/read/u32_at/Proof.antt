@@ -1,5 +1,5 @@
 -- `wire::read::u32_at` meets its contract: the number of four bytes from those of each two.
-use mathlib.Core.Path.{sym, _∙_}
+use mathlib.Core.Path.{sym}
 use native.Mathlib.Omega.{arith}
 use borrow.Author.Needs.{needs}
 use Rattle.wire.proofs.NumberLaws.{number-add}

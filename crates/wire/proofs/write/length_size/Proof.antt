@@ -1,6 +1,4 @@
 -- `wire::write::length_size` meets its contract: by the three forms.
-use mathlib.Core.Path.{sym, ap}
-use lib.ListN.{length}
 use Rattle.wire.proofs.LengthLaws.{field-one, field-two, field-three}
 use Rattle.wire.proofs.write.length_size.Statement.{statement}
 use Rattle.wire.proofs.write.length_size.Tie as tie
