@@ -15,7 +15,7 @@ use Rattle.model.specs.State.{Line, Entry, Store, Model, withBody, withS
 use Rattle.model.specs.Objects.{profileNamed, Service, get, action, Request}
 use Rattle.model.specs.Calls.{Lent, Call, frame, giveRegisters, setValue, setColumns, setPeriod, tick, setP5, powerUp, Wrap, Decision, answer, serve, Protocol, KeepsLengths, trace}
 use Rattle.model.specs.Demand3.{Chosen, hide, hideRegister, hideCells, hideEntry, hidden, hiddenCall, anyChosen, asksChosen, decidesRead, reads}
-use Rattle.model.specs.Honesty.{replaceRegisters, replaceCells, replaceRows, ReplacedAlike, valueAt, cellAt, blankEntry, AlikeReplaced, replacedCall, ReplacedCallAlike, nothing, NothingChosen, UnchosenProfile, ChosenRead, ReadsAreChosen}
+use Rattle.model.specs.Honesty.{replaceRegisters, replaceCells, replaceRows, ReplacedAlike, valueAt, cellAt, blankEntry, AlikeReplaced, ReplacedCallAlike, nothing, NothingChosen, UnchosenProfile, ChosenRead, ReadsAreChosen}
 use Rattle.model.proofs.ListLaws.{both}
 use Rattle.model.proofs.HidingLaws.{rows-kept}
 use Rattle.model.proofs.Noninterference.{same-call}

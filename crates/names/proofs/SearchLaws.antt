@@ -6,8 +6,8 @@ use mathlib.Core.List.{List, [], _∷_, _++_, map}
 use Prim.Native.Nat.{ℕ, suc, _+_, _<_, _≤_}
 use native.Mathlib.Numerals.{add-one}
 use native.Mathlib.Omega.{arith}
-use lib.ListN.{length, take, drop, getD, set, drop-of-length-le, length-map, length-set, List·getD-map}
-use lib.Seq.{drop-cons, getD-take, length-take-le, take-suc-set, take-suc, take-all}
+use lib.ListN.{length, take, drop, getD, set, drop-of-length-le, length-set}
+use lib.Seq.{drop-cons, getD-take, length-take-le, take-suc-set, take-suc}
 use Rattle.model.specs.declared.Name.{Name}
 use Rattle.model.specs.Names.{sameName, seat, every}
 
@@ -61,24 +61,32 @@ module _ (A : Type 0) (f : ℕ → A → Bool) (n : ℕ) (l : List A) where
     pub tested-all : n ≤ i → true ≡ every f 0 (take n l)
     tested-all h = rw (← p .rest, drop-of-length-le (take n l) {i = i} (omega (arith, length-take-le n l (p .enough))))
 
--- A list filled from another: the first i are the images.
-pub record Filled (A B : Type 0) (f : A → B) (l : List A) (out : List B) (i : ℕ) : Type 0 where
-  pub below : i ≤ length l
+-- A list filled from the first n of another: the first i are the images.
+pub record Filled (A B : Type 0) (f : A → B) (n : ℕ) (l : List A) (out : List B) (i : ℕ) : Type 0 where
+  pub below : i ≤ n
+  pub enough : n ≤ length l
   pub sized : length out ≡ length l
   pub done : take i out ≡ map f (take i l)
 
-module _ (A B : Type 0) (f : A → B) (l : List A) (out : List B) (i : ℕ) (d : A) (p : Filled A B f l out i) where
-  pub filled-more : i < length l → Filled A B f l (set out i (f (getD l i d))) (i + 1)
-  filled-more h =
-      record {
-        below = omega arith;
-        sized = length-set out i (f (getD l i d)) ∙ p .sized;
-        done = rw (add-one, take-suc-set out i (f (getD l i d)) (omega (arith, p .sized)), p .done, take-suc l i d h) (sym (map-snoc (take i l)));
-      }
-    where
-      map-snoc : (xs : List A) → map f (xs ++ (getD l i d ∷ [])) ≡ map f xs ++ (f (getD l i d) ∷ [])
-      map-snoc [] = refl
-      map-snoc (x ∷ xs) = ap (_∷_ (f x)) (map-snoc xs)
+module _ (A B : Type 0) (f : A → B) (n : ℕ) (l : List A) (out : List B) where
+  pub filled-none : n ≤ length l → length out ≡ length l → Filled A B f n l out 0
+  filled-none h e = record { below = omega arith; enough = h; sized = e; done = refl }
 
-  pub filled-all : length l ≤ i → out ≡ map f l
-  filled-all h = sym (take-all i out (omega (arith, p .sized))) ∙ p .done ∙ ap (map f) (take-all i l h)
+  module _ (i : ℕ) (d : A) (p : Filled A B f n l out i) where
+    map-last : (xs : List A) (y : A) → map f (xs ++ (y ∷ [])) ≡ map f xs ++ (f y ∷ [])
+    map-last [] y = refl
+    map-last (x ∷ xs) y = ap (_∷_ (f x)) (map-last xs y)
+
+    pub filled-more : (v : B) → i < n → v ≡ f (getD l i d) → Filled A B f n l (set out i v) (i + 1)
+    filled-more v h e =
+        let k : i < length l = omega (arith, p .enough) in
+        let o : i < length out = omega (arith, p .sized) in
+        record {
+          below = omega arith;
+          enough = p .enough;
+          sized = length-set out i v ∙ p .sized;
+          done = rw (add-one, take-suc-set out i v o, p .done, e, take-suc l i d k) (sym (map-last (take i l) (getD l i d)));
+        }
+
+    pub filled-all : n ≤ i → take n out ≡ map f (take n l)
+    filled-all h = let e : i ≡ n = omega (arith, p .below) in rw (← e) (p .done)

@@ -1,5 +1,4 @@
 -- `calendar::is_due` meets its contract.
-use mathlib.Core.Path.{sym, _∙_}
 use Rattle.model.specs.Periods.{captureDue}
 use borrow.Author.Needs.{needs}
 use native.Mathlib.Omega.{arith}

@@ -1,0 +1,5 @@
+pub mod Blank
+pub mod HeldLaws
+pub mod ShiftLaws
+pub mod Lengths
+pub mod StoreLaws
