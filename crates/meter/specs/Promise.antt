@@ -1,0 +1,21 @@
+-- What an owner's call promises of any meter, sound or not.
+use mathlib.Core.Path.{_≡_}
+use mathlib.Core.List.{[]}
+use Prim.Native.Nat.{ℕ}
+use Rattle.model.specs.Calls.{Call, Protocol}
+use Rattle.model.specs.Demand3.{Handed, Promised}
+use Rattle.meter.specs.declared.Meter.{Meter}
+use Rattle.meter.specs.declared.Changed.{Changed}
+use Rattle.meter.specs.View.{view}
+
+abbrev pub changed : ℕ → Meter → Changed
+changed n m = record { refusal = n; meter = m }
+
+-- what it hands back: no reply room is lent, and nothing goes out
+abbrev pub handed : Changed → Handed Meter view
+handed r = record { refusal = r .refusal; count = 0; meter = r .meter; before = []; after = [] }
+
+-- the model's promise, whatever protocol frames go by; and where the call is refused, the very meter comes back
+pub record Owned (c : Call) (m : Meter) (r : Changed) : Type 0 where
+  pub promised : (p : Protocol) → Promised Meter view p c m (handed r)
+  pub kept : (r .refusal ≡ 0 → ⊥) → r .meter ≡ m

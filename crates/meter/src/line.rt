@@ -1,0 +1,168 @@
+// The line's part of soundness: kinds of associations, links under them, services agreed; and what power-up leaves of it.
+use crate::CipherParty;
+use crate::LineState;
+use crate::Party;
+use crate::Phase;
+use model::Counters;
+ghost use mathlib.Core.Path.{_≡_};
+ghost use mathlib.Core.List.{List};
+ghost use Prim.Native.Nat.{ℕ};
+ghost use Rattle.model.specs.Services.{within};
+ghost use Rattle.model.specs.Soundness.{agreedWithin, kindsKnown, linksStand, onLink, servicesOffered};
+ghost use Rattle.model.specs.State.{newPeer, noCounters};
+ghost use Rattle.model.specs.Calls.{poweredLine};
+ghost use Rattle.meter.specs.View.{associationOf, lineOf, newLine, peerOf};
+ghost use Rattle.meter.specs.Parts.{lineSound};
+
+// Whether the line passes its tests.
+pub fn is_line_sound(line: LineState) -> bool
+    ensures { λ r. ⌜ r ≡ lineSound (lineOf line) ⌝ }
+{
+    if !kinds_known(line) {
+        return false;
+    }
+    if !links_stand(line) {
+        return false;
+    }
+    services_offered(line)
+}
+
+// V's association is none or associated; H's may be pending, too.
+fn kinds_known(line: LineState) -> bool
+    ensures { λ r. ⌜ r ≡ kindsKnown (lineOf line) ⌝ }
+{
+    let v = line.verification;
+    let phase = v.phase;
+    match phase {
+        Phase::Idle => true,
+        Phase::Pending => false,
+        Phase::Associated => true,
+    }
+}
+
+fn links_stand(line: LineState) -> bool
+    ensures { λ r. ⌜ r ≡ linksStand (lineOf line) ⌝ }
+{
+    let v = line.verification;
+    if !on_link(v) {
+        return false;
+    }
+    let h = line.han;
+    let p = h.party;
+    on_link(p)
+}
+
+fn services_offered(line: LineState) -> bool
+    ensures { λ r. ⌜ r ≡ servicesOffered (lineOf line) ⌝ }
+{
+    let v = line.verification;
+    if !agreed_within(v, [0x00, 0x00, 0x14]) {
+        return false;
+    }
+    let h = line.han;
+    let p = h.party;
+    agreed_within(p, [0x00, 0x00, 0x15])
+}
+
+// No association stands on a link that is down.
+fn on_link(p: Party) -> bool
+    ensures { λ r. ⌜ ((k c s : List ℕ) → r ≡ onLink (peerOf p k c s)) ⌝ }
+{
+    let up = p.up;
+    if up {
+        return true;
+    }
+    let phase = p.phase;
+    match phase {
+        Phase::Idle => true,
+        Phase::Pending => false,
+        Phase::Associated => false,
+    }
+}
+
+// The agreed services lie within those offered, where an association stands.
+fn agreed_within(p: Party, offered: [u8; 3]) -> bool
+    ensures { λ r. ⌜ ((k c s : List ℕ) → r ≡ agreedWithin offered (associationOf (p .phase) (p .agreed) k c s)) ⌝ }
+{
+    let phase = p.phase;
+    let agreed = p.agreed;
+    match phase {
+        Phase::Idle => true,
+        Phase::Pending => is_within(agreed, offered),
+        Phase::Associated => is_within(agreed, offered),
+    }
+}
+
+fn is_within(a: [u8; 3], o: [u8; 3]) -> bool
+    ensures { λ r. ⌜ r ≡ within a o ⌝ }
+{
+    if a[0] & o[0] != a[0] {
+        return false;
+    }
+    if a[1] & o[1] != a[1] {
+        return false;
+    }
+    a[2] & o[2] == a[2]
+}
+
+// A line of these titles, with links down and no associations.
+pub fn new_line(title: [u8; 8], verification: [u8; 8], han: [u8; 8]) -> LineState
+    ensures { λ r. ⌜ lineOf r ≡ newLine title verification han ⌝ }
+{
+    let v = new_party(verification);
+    let p = new_party(han);
+    let h = new_cipher_party(p);
+    LineState {
+        title,
+        verification: v,
+        han: h,
+        p5: false,
+    }
+}
+
+// Links and associations end and counters are cleared; an ended association leaves nothing in its fields.
+pub fn powered_up(line: LineState) -> LineState
+    ensures { λ r. ⌜ lineOf r ≡ poweredLine (lineOf line) ⌝ }
+{
+    let title = line.title;
+    let v = line.verification;
+    let w = new_party(v.title);
+    let h = line.han;
+    let p = h.party;
+    let q = new_party(p.title);
+    let k = new_cipher_party(q);
+    LineState {
+        title,
+        verification: w,
+        han: k,
+        p5: line.p5,
+    }
+}
+
+// A client whose link is down; its association is none, whatever key and challenges stand beside it.
+fn new_party(title: [u8; 8]) -> Party
+    ensures { λ r. ⌜ ((k c s : List ℕ) → peerOf r k c s ≡ newPeer title) ⌝ }
+{
+    Party {
+        title,
+        up: false,
+        phase: Phase::Idle,
+        agreed: [0u8; 3],
+    }
+}
+
+fn new_cipher_party(party: Party) -> CipherParty
+    ensures { λ r. ⌜ (r .party ≡ party) × (r .counters ≡ noCounters) ⌝ }
+{
+    let counters = Counters {
+        accepted: 0,
+        sent: 0,
+    };
+    CipherParty {
+        party,
+        key: [0u8; 16],
+        client: [0u8; 8],
+        meter: [0u8; 8],
+        counters,
+    }
+}

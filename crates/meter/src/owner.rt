@@ -1,0 +1,181 @@
+// The owner's calls. Each refuses an unsound meter by 3, then by its own number, and hands a refused meter back as it was.
+use crate::Changed;
+use crate::Meter;
+use crate::body;
+use crate::line;
+use crate::sound;
+use model::Clock;
+use model::Name;
+use model::Register;
+use store::Columns;
+use store::Registers;
+ghost use mathlib.Core.Path.{_≡_};
+ghost use Rattle.model.specs.Names.{blankName, blankRegister};
+ghost use Rattle.model.specs.State.{newMeter};
+ghost use Rattle.model.specs.Calls.{Call};
+ghost use Rattle.store.specs.Lists.{held};
+ghost use Rattle.meter.specs.View.{view};
+ghost use Rattle.meter.specs.Promise.{Owned, changed};
+
+impl Meter {
+    // A new meter: its name and titles are taken as given, and all else is empty.
+    pub fn new(device: [u8; 16], title: [u8; 8], verification: [u8; 8], han: [u8; 8]) -> Meter
+        ensures { λ r. ⌜ view r ≡ newMeter device title verification han ⌝ }
+    {
+        let l = line::new_line(title, verification, han);
+        let b = body::new_body(device);
+        Meter { line: l, body: b }
+    }
+
+    // Registers are given anew; columns and rows are emptied. Refusals 3 and 16.
+    pub fn give_registers(mut self, registers: [Register; 16], count: usize) -> Changed
+        ensures { λ r. ⌜ Owned (Call.giveRegisters (held blankRegister count registers)) self r ⌝ }
+    {
+        let m = self;
+        if !sound::is_sound(m) {
+            return refused(3, m);
+        }
+        let given = Registers {
+            count,
+            items: registers,
+        };
+        if !store::registers_accepted(given) {
+            return refused(16, m);
+        }
+        let mut b = m.body;
+        b.registers = given;
+        let columns = body::no_columns();
+        b.columns = columns;
+        let rows = body::no_rows();
+        b.rows = rows;
+        self.body = b;
+        accepted(self)
+    }
+
+    // The value of a register is set. Refusals 3 and 17.
+    pub fn set_value(mut self, name: Name, value: u32) -> Changed
+        ensures { λ r. ⌜ Owned (Call.setValue name value) self r ⌝ }
+    {
+        let m = self;
+        if !sound::is_sound(m) {
+            return refused(3, m);
+        }
+        let mut b = m.body;
+        let registers = b.registers;
+        let a = store::assign(registers, name, value);
+        let found = a.found;
+        if !found {
+            return refused(17, m);
+        }
+        let next = a.registers;
+        b.registers = next;
+        self.body = b;
+        accepted(self)
+    }
+
+    // Columns are set by the names of given registers; rows are emptied. Refusals 3 and 18.
+    pub fn set_columns(mut self, columns: [Name; 16], count: usize) -> Changed
+        ensures { λ r. ⌜ Owned (Call.setColumns (held blankName count columns)) self r ⌝ }
+    {
+        let m = self;
+        if !sound::is_sound(m) {
+            return refused(3, m);
+        }
+        let mut b = m.body;
+        let registers = b.registers;
+        let these = Columns {
+            count,
+            items: columns,
+        };
+        if !store::columns_accepted(registers, these) {
+            return refused(18, m);
+        }
+        b.columns = these;
+        let rows = body::no_rows();
+        b.rows = rows;
+        self.body = b;
+        accepted(self)
+    }
+
+    // The capture period is set. Refusals 3 and 15.
+    pub fn set_period(mut self, period: u32) -> Changed
+        ensures { λ r. ⌜ Owned (Call.setPeriod period) self r ⌝ }
+    {
+        let m = self;
+        if !sound::is_sound(m) {
+            return refused(3, m);
+        }
+        if !calendar::is_permitted(period) {
+            return refused(15, m);
+        }
+        let mut b = m.body;
+        b.period = period;
+        self.body = b;
+        accepted(self)
+    }
+
+    // The clock moves on, and a row is taken where a capture is due. Refusals 3 and 14.
+    pub fn tick(mut self, clock: Clock) -> Changed
+        ensures { λ r. ⌜ Owned (Call.tick clock) self r ⌝ }
+    {
+        let m = self;
+        if !sound::is_sound(m) {
+            return refused(3, m);
+        }
+        if !calendar::is_valid(clock) {
+            return refused(14, m);
+        }
+        let b = m.body;
+        let next = body::ticked(b, clock);
+        self.body = next;
+        accepted(self)
+    }
+
+    // The P5 flag is set or cleared. Refusal 3.
+    pub fn set_p5(mut self, held: bool) -> Changed
+        ensures { λ r. ⌜ Owned (Call.setP5 held) self r ⌝ }
+    {
+        let m = self;
+        if !sound::is_sound(m) {
+            return refused(3, m);
+        }
+        let mut l = m.line;
+        l.p5 = held;
+        self.line = l;
+        accepted(self)
+    }
+
+    // Power-up: links and associations end; counters, rows and record number are cleared. Refusal 3.
+    pub fn power_up(mut self) -> Changed
+        ensures { λ r. ⌜ Owned Call.powerUp self r ⌝ }
+    {
+        let m = self;
+        if !sound::is_sound(m) {
+            return refused(3, m);
+        }
+        let l = m.line;
+        let line = line::powered_up(l);
+        let mut b = m.body;
+        let rows = body::no_rows();
+        b.rows = rows;
+        b.number = 0;
+        self.line = line;
+        self.body = b;
+        accepted(self)
+    }
+}
+
+fn refused(number: u8, meter: Meter) -> Changed
+    ensures { λ r. ⌜ r ≡ changed number meter ⌝ }
+{
+    Changed {
+        refusal: number,
+        meter,
+    }
+}
+
+fn accepted(meter: Meter) -> Changed
+    ensures { λ r. ⌜ r ≡ changed 0 meter ⌝ }
+{
+    Changed { refusal: 0, meter }
+}
