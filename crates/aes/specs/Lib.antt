@@ -1,0 +1,5 @@
+pub mod State
+pub mod Field
+pub mod Sbox
+pub mod Cipher
+pub mod KeyExpansion
