@@ -1,6 +1,6 @@
 // GHASH (SP 800-38D, 6.3 and 6.4). A block is two words by value. The product goes bit by bit.
 ghost use mathlib.Core.Path.{_≡_};
-ghost use Prim.Native.Nat.{_/_, _≤_};
+ghost use Prim.Native.Nat.{_/_};
 ghost use lib.ListN.{getD};
 ghost use lib.Bits.{bitXor};
 ghost use Rattle.gf2.specs.Shift.{ifBit, step};
@@ -135,17 +135,17 @@ fn xor_if(a: Block, bit: u64, b: Block) -> Block
     if bit == 0 { a } else { xor(a, b) }
 }
 
-// The eight bytes from place a on as a number, the first the highest.
-fn load_word(s: &[u8], a: usize) -> u64
-    requires { ⌜ a ≤ 8 ⌝ }
+// The eight bytes from place a on as a number, the first the highest. A place is a byte, so that no sum of it can wrap.
+fn load_word(s: &[u8], a: u8) -> u64
     ensures { λ r. ⌜ r ≡ word64 (now (s .entry)) a ⌝ }
 {
-    (byte_at(s, a) as u64) * 0x100_0000_0000_0000
-        + (byte_at(s, a + 1) as u64) * 0x1_0000_0000_0000
-        + (byte_at(s, a + 2) as u64) * 0x100_0000_0000
-        + (byte_at(s, a + 3) as u64) * 0x1_0000_0000
-        + (byte_at(s, a + 4) as u64) * 0x100_0000
-        + (byte_at(s, a + 5) as u64) * 0x1_0000
-        + (byte_at(s, a + 6) as u64) * 0x100
-        + (byte_at(s, a + 7) as u64)
+    let i = a as usize;
+    (byte_at(s, i) as u64) * 0x100_0000_0000_0000
+        + (byte_at(s, i + 1) as u64) * 0x1_0000_0000_0000
+        + (byte_at(s, i + 2) as u64) * 0x100_0000_0000
+        + (byte_at(s, i + 3) as u64) * 0x1_0000_0000
+        + (byte_at(s, i + 4) as u64) * 0x100_0000
+        + (byte_at(s, i + 5) as u64) * 0x1_0000
+        + (byte_at(s, i + 6) as u64) * 0x100
+        + (byte_at(s, i + 7) as u64)
 }
