@@ -140,16 +140,16 @@ fn envelopes() {
 
 // A block enciphered.
 fn cipher_case(name: &[u8], key: &[u8], input: &[u8], output: &[u8]) {
-    let w = aes::expand_key(gcm::key_of(key));
-    let s = aes::state_of(gcm::key_of(input));
+    let w = aes::expand_key(gcm::first_16(key));
+    let s = aes::state_of(gcm::first_16(input));
     let b = aes::bytes_of(aes::encrypt_block(w, s));
     report(name, b"enciphered", &b, output);
 }
 
 // A text sealed and opened.
 fn gcm_case(name: &[u8], key: &[u8], nonce: &[u8], aad: &[u8], text: &[u8], c: &[u8], t: &[u8]) {
-    let k = gcm::key_of(key);
-    let v = gcm::nonce_of(nonce);
+    let k = gcm::first_16(key);
+    let v = gcm::first_12(nonce);
     sealed(name, k, v, aad, text, c, t);
     opened(name, k, v, aad, text, c, t);
     changed(name, k, v, aad, c, t);
@@ -157,8 +157,8 @@ fn gcm_case(name: &[u8], key: &[u8], nonce: &[u8], aad: &[u8], text: &[u8], c: &
 
 // A tag with no text.
 fn gmac_case(name: &[u8], key: &[u8], nonce: &[u8], aad: &[u8], t: &[u8]) {
-    let k = gcm::key_of(key);
-    let v = gcm::nonce_of(nonce);
+    let k = gcm::first_16(key);
+    let v = gcm::first_12(nonce);
     let r = gcm::gmac(k, v, aad);
     report(name, b"made", &r, t);
     tell(name, b"tested", gcm::is_authentic(k, v, aad, b"", t));

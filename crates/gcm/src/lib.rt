@@ -2,7 +2,8 @@
 // twelve bytes. No function here has a `requires`.
 ghost use mathlib.Core.Path.{_≡_};
 ghost use Rattle.ghash.specs.Product.{num};
-ghost use Rattle.gcm.specs.Gcm.{hashKey, bitLength, authenticated, tagUnder, authentic, sameBytes, «gmac» as gmacOf, keyOf, nonceOf, Sealed, Opened, SealedPart};
+ghost use Rattle.gcm.specs.Gcm.{hashKey, bitLength, authenticated, tagUnder, authentic, sameBytes, «gmac» as gmacOf};
+ghost use Rattle.gcm.specs.Calls.{Sealed, SealedPart, Opened, bytesFrom};
 use ghash::Block;
 
 // Seals the text where it stands, and returns the tag.
@@ -76,9 +77,9 @@ pub fn gmac(key: [u8; 16], nonce: [u8; 12], aad: &[u8]) -> [u8; 12]
     tag_under(w, nonce, aad, b"")
 }
 
-// The first sixteen bytes of a slice, as a key.
-pub fn key_of(s: &[u8]) -> [u8; 16]
-    ensures { λ r. ⌜ r ≡ keyOf (now (s .entry)) ⌝ }
+// The first sixteen bytes of a slice, as for a key; a byte past the end is 0.
+pub fn first_16(s: &[u8]) -> [u8; 16]
+    ensures { λ r. ⌜ r ≡ bytesFrom 16 0 (now (s .entry)) ⌝ }
 {
     [
         ghash::byte_at(s, 0),
@@ -100,9 +101,9 @@ pub fn key_of(s: &[u8]) -> [u8; 16]
     ]
 }
 
-// The first twelve bytes of a slice, as a nonce.
-pub fn nonce_of(s: &[u8]) -> [u8; 12]
-    ensures { λ r. ⌜ r ≡ nonceOf (now (s .entry)) ⌝ }
+// The first twelve bytes of a slice, as for a nonce; a byte past the end is 0.
+pub fn first_12(s: &[u8]) -> [u8; 12]
+    ensures { λ r. ⌜ r ≡ bytesFrom 12 0 (now (s .entry)) ⌝ }
 {
     [
         ghash::byte_at(s, 0),
@@ -126,20 +127,7 @@ fn tag_under(w: [[[u8; 4]; 4]; 11], nonce: [u8; 12], aad: &[u8], c: &[u8]) -> [u
 {
     let mut s = ghash::bytes_of(authenticate(w, aad, c));
     gctr::encipher(w, nonce, 1, &mut s);
-    [
-        s[0],
-        s[1],
-        s[2],
-        s[3],
-        s[4],
-        s[5],
-        s[6],
-        s[7],
-        s[8],
-        s[9],
-        s[10],
-        s[11],
-    ]
+    first_12(&s)
 }
 
 // The hash of associated data, cipher text and their lengths.
