@@ -1,6 +1,7 @@
 // Published vectors, run and compared: AES-128 (FIPS 197, appendices B and C.1; SP 800-38A, F.1.1), GCM (its specification's
 // test cases 1 to 4), GMAC and two envelopes of the Green Book. Tags are cut to twelve bytes. Each vector is sealed in the
 // middle of a buffer, opened, and opened again with one bit changed in the tag, the text and the associated data.
+ghost use Prim.Native.Nat.{_≤_};
 use libc::STDOUT_FILENO;
 
 fn main() {
@@ -173,13 +174,24 @@ fn sealed(name: &[u8], k: [u8; 16], v: [u8; 12], aad: &[u8], text: &[u8], c: &[u
         return;
     }
     let e = 5 + n;
-    let g = e + 12;
-    bytes::copy(text, &mut buf[5..e]);
-    tell(name, b"sealed", gcm::seal_part(k, v, aad, &mut buf, 5, e));
+    tell(name, b"sealed", laid_out(k, v, aad, text, &mut buf));
     report(name, b"cipher text", &buf[5..e], c);
-    report(name, b"tag", &buf[e..g], t);
+    report(name, b"tag", &buf[e..e + 12], t);
     report(name, b"byte before", &buf[4..5], b"\x5a");
-    report(name, b"byte behind", &buf[g..g + 1], b"\x5a");
+    report(name, b"byte behind", &buf[e + 12..e + 13], b"\x5a");
+}
+
+fn laid_out(k: [u8; 16], v: [u8; 12], aad: &[u8], text: &[u8], buf: &mut [u8]) -> bool {
+    let n = text.len();
+    if buf.len() < 128 {
+        return false;
+    }
+    if 64 < n {
+        return false;
+    }
+    let e = 5 + n;
+    bytes::copy(text, &mut buf[5..e]);
+    gcm::seal_part(k, v, aad, buf, 5, e)
 }
 
 // The cipher text opened into a buffer of its own.
@@ -190,45 +202,52 @@ fn opened(name: &[u8], k: [u8; 16], v: [u8; 12], aad: &[u8], text: &[u8], c: &[u
         return;
     }
     tell(name, b"opened", gcm::open(k, v, aad, c, t, &mut out));
-    report(name, b"plain text", &out[..n], text);
+    report(name, b"plain text", &out[0..n], text);
 }
 
 // One bit changed in the tag, in the text and in the associated data.
 fn changed(name: &[u8], k: [u8; 16], v: [u8; 12], aad: &[u8], c: &[u8], t: &[u8]) {
     let mut b = [0u8; 128];
-    if copied(t, &mut b) {
-        refused(name, b"changed tag refused", k, v, aad, c, &b[..t.len()]);
+    let m = flipped(t, &mut b);
+    if 0 < m {
+        refused(name, b"changed tag refused", k, v, aad, c, &b[0..m]);
     }
-    if copied(c, &mut b) {
-        refused(name, b"changed text refused", k, v, aad, &b[..c.len()], t);
+    let n = flipped(c, &mut b);
+    if 0 < n {
+        refused(name, b"changed text refused", k, v, aad, &b[0..n], t);
     }
-    if copied(aad, &mut b) {
+    let l = flipped(aad, &mut b);
+    if 0 < l {
         refused(
             name,
             b"changed associated data refused",
             k,
             v,
-            &b[..aad.len()],
+            &b[0..l],
             c,
             t,
         );
     }
 }
 
-// Copies s, if it has bytes, with one bit of the last byte changed.
-fn copied(s: &[u8], b: &mut [u8]) -> bool
-    ensures { λ r. ⌜ (r ≡ true → length (now (s .entry)) ≤ 128) ⌝ }
+// Copies s with one bit of its last byte changed, and answers how many bytes that are; 0 where s is empty or too long.
+fn flipped(s: &[u8], b: &mut [u8]) -> usize
+    ensures { λ r. ⌜ r ≤ 128 ⌝ }
 {
     let n = s.len();
     if n == 0 {
-        return false;
+        return 0;
+    }
+    if 128 < n {
+        return 0;
     }
     if b.len() < n {
-        return false;
+        return 0;
     }
     bytes::copy(s, b);
-    b[n - 1] = b[n - 1] ^ 1;
-    true
+    let last = n - 1;
+    b[last] = b[last] ^ 1;
+    n
 }
 
 // An opening that is refused and leaves its buffer as it was.
@@ -262,7 +281,9 @@ fn report(name: &[u8], what: &[u8], got: &[u8], want: &[u8]) {
     } else {
         tell(name, what, false);
         print_hex(got);
+        print(b"\n");
         print_hex(want);
+        print(b"\n");
     }
 }
 
@@ -276,7 +297,6 @@ fn print_hex(s: &[u8]) {
         io::print_hex(STDOUT_FILENO, wide(s[i]), 2);
         i = i + 1;
     }
-    print(b"\n");
 }
 
 fn wide(b: u8) -> u64 {
