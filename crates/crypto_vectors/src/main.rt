@@ -1,7 +1,9 @@
 // Published vectors, run and compared: AES-128 (FIPS 197, appendices B and C.1; SP 800-38A, F.1.1), GCM (its specification's
 // test cases 1 to 4), GMAC and two envelopes of the Green Book. Tags are cut to twelve bytes. Each vector is sealed in the
 // middle of a buffer, opened, and opened again with one bit changed in the tag, the text and the associated data.
+ghost use mathlib.Core.Path.{_≡_};
 ghost use Prim.Native.Nat.{_≤_};
+ghost use lib.ListN.{length};
 use libc::STDOUT_FILENO;
 
 fn main() {
@@ -168,7 +170,7 @@ fn gmac_case(name: &[u8], key: &[u8], nonce: &[u8], aad: &[u8], t: &[u8]) {
 
 // The text laid out from place 5 of a buffer on and sealed there: cipher text and tag, and the bytes around them.
 fn sealed(name: &[u8], k: [u8; 16], v: [u8; 12], aad: &[u8], text: &[u8], c: &[u8], t: &[u8]) {
-    let mut buf = [0x5au8; 128];
+    let mut buf = room();
     let n = text.len();
     if 64 < n {
         return;
@@ -196,7 +198,7 @@ fn laid_out(k: [u8; 16], v: [u8; 12], aad: &[u8], text: &[u8], buf: &mut [u8]) -
 
 // The cipher text opened into a buffer of its own.
 fn opened(name: &[u8], k: [u8; 16], v: [u8; 12], aad: &[u8], text: &[u8], c: &[u8], t: &[u8]) {
-    let mut out = [0u8; 128];
+    let mut out = room();
     let n = c.len();
     if 64 < n {
         return;
@@ -207,7 +209,7 @@ fn opened(name: &[u8], k: [u8; 16], v: [u8; 12], aad: &[u8], text: &[u8], c: &[u
 
 // One bit changed in the tag, in the text and in the associated data.
 fn changed(name: &[u8], k: [u8; 16], v: [u8; 12], aad: &[u8], c: &[u8], t: &[u8]) {
-    let mut b = [0u8; 128];
+    let mut b = room();
     let m = flipped(t, &mut b);
     if 0 < m {
         refused(name, b"changed tag refused", k, v, aad, c, &b[0..m]);
@@ -252,13 +254,20 @@ fn flipped(s: &[u8], b: &mut [u8]) -> usize
 
 // An opening that is refused and leaves its buffer as it was.
 fn refused(name: &[u8], what: &[u8], k: [u8; 16], v: [u8; 12], aad: &[u8], c: &[u8], t: &[u8]) {
-    let mut out = [0x5au8; 128];
-    let was = [0x5au8; 128];
+    let mut out = room();
+    let was = room();
     if gcm::open(k, v, aad, c, t, &mut out) {
         tell(name, what, false);
     } else {
         tell(name, what, check::same(&out, &was));
     }
+}
+
+// A buffer. What it holds is left open, so that no proof here carries its bytes about.
+fn room() -> [u8; 128]
+    ensures { λ r. ⌜ 128 ≡ length r ⌝ }
+{
+    [0x5a; 128]
 }
 
 // One line: ok or wrong, the vector and the step.
