@@ -154,7 +154,6 @@ fn gcm_case(name: &[u8], key: &[u8], nonce: &[u8], aad: &[u8], text: &[u8], c: &
     let k = gcm::first_16(key);
     let v = gcm::first_12(nonce);
     sealed(name, k, v, aad, text, c, t);
-    opened(name, k, v, aad, text, c, t);
     changed(name, k, v, aad, c, t);
 }
 
@@ -168,7 +167,8 @@ fn gmac_case(name: &[u8], key: &[u8], nonce: &[u8], aad: &[u8], t: &[u8]) {
     changed(name, k, v, aad, b"", t);
 }
 
-// The text laid out from place 5 of a buffer on and sealed there: cipher text and tag, and the bytes around them.
+// The text laid out from place 5 of a buffer on and sealed there: cipher text and tag, and the bytes around them. It is then
+// opened from the middle of that buffer.
 fn sealed(name: &[u8], k: [u8; 16], v: [u8; 12], aad: &[u8], text: &[u8], c: &[u8], t: &[u8]) {
     let mut buf = room();
     let n = text.len();
@@ -181,6 +181,7 @@ fn sealed(name: &[u8], k: [u8; 16], v: [u8; 12], aad: &[u8], text: &[u8], c: &[u
     report(name, b"tag", &buf[e..e + 12], t);
     report(name, b"byte before", &buf[4..5], b"\x5a");
     report(name, b"byte behind", &buf[e + 12..e + 13], b"\x5a");
+    opened(name, k, v, aad, text, &buf);
 }
 
 fn laid_out(k: [u8; 16], v: [u8; 12], aad: &[u8], text: &[u8], buf: &mut [u8]) -> bool {
@@ -196,14 +197,22 @@ fn laid_out(k: [u8; 16], v: [u8; 12], aad: &[u8], text: &[u8], buf: &mut [u8]) -
     gcm::seal_part(k, v, aad, buf, 5, e)
 }
 
-// The cipher text opened into a buffer of its own.
-fn opened(name: &[u8], k: [u8; 16], v: [u8; 12], aad: &[u8], text: &[u8], c: &[u8], t: &[u8]) {
+// A cipher text from place 5 of a frame on, and the tag behind it, opened into a buffer of its own.
+fn opened(name: &[u8], k: [u8; 16], v: [u8; 12], aad: &[u8], text: &[u8], f: &[u8]) {
     let mut out = room();
-    let n = c.len();
+    let n = text.len();
     if 64 < n {
         return;
     }
-    tell(name, b"opened", gcm::open(k, v, aad, c, t, &mut out));
+    if f.len() < 128 {
+        return;
+    }
+    let e = 5 + n;
+    tell(
+        name,
+        b"opened",
+        gcm::open(k, v, aad, &f[5..e], &f[e..e + 12], &mut out),
+    );
     report(name, b"plain text", &out[0..n], text);
 }
 

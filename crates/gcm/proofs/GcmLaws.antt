@@ -13,7 +13,7 @@ use Rattle.aes.specs.KeyExpansion.{keyExpansion}
 use Rattle.ghash.specs.Hash.{blockBytes}
 use Rattle.gctr.specs.Gctr.{inc32, gctr}
 use Rattle.gctr.proofs.GctrLaws.{length-gctr, gctr-back}
-use Rattle.gcm.specs.Gcm.{tagLength, j0, authenticated, tagUnder, tag, ciphered, sealed, authentic, sameBytes}
+use Rattle.gcm.specs.Gcm.{tagLength, j0, authenticated, tagUnder, tag, ciphered, sealed, gmac, authentic}
 use Rattle.gcm.specs.Calls.{opens, opened}
 use Rattle.gcm.proofs.SameLaws.{same-equal, equal-same}
 
@@ -34,6 +34,10 @@ module _ (key nonce aad : List ℕ) where
   length-tag c =
       length-take-le tagLength (gctr (keyExpansion key) nonce j0 (blockBytes (authenticated (keyExpansion key) aad c)))
       (omega (arith, length-under (keyExpansion key) nonce aad c))
+
+  pub length-gmac : length (gmac key nonce aad) ≡ tagLength
+  unfolding gmac
+  length-gmac = length-tag []
 
   pub length-sealed : (text : List ℕ) → length (sealed key nonce aad text) ≡ length text + tagLength
   unfolding sealed

@@ -67,8 +67,8 @@ module _ (key nonce aad l : List ℕ) (a e : ℕ) where
         ∙ length-ciphered key nonce aad (take (e - a) (drop a l))
         ∙ length-take-le (e - a) (drop a l) (simp length-drop (omega arith))
 
-    length-mark : length t ≡ tagLength
-    length-mark = ap length (s .mark) ∙ length-tag key nonce aad (ciphered key nonce (take (e - a) (drop a l)))
+    length-tagged : length t ≡ tagLength
+    length-tagged = ap length (s .tagged) ∙ length-tag key nonce aad (ciphered key nonce (take (e - a) (drop a l)))
 
     head : length (take a l ++ c) ≡ e
     head = simp (length-append, length-take-le a l (omega arith), length-cipher) (omega arith)
@@ -92,13 +92,13 @@ module _ (key nonce aad l : List ℕ) (a e : ℕ) where
     -- c ++ t is what is sealed
     both : c ++ t ≡ sealed key nonce aad (take (e - a) (drop a l))
     unfolding sealed
-    both = ap₂ (λ (p q : List ℕ). p ++ q) (s .cipher) (s .mark)
+    both = ap₂ (λ (p q : List ℕ). p ++ q) (s .cipher) (s .tagged)
 
     -- the buffer when the tag has been laid behind the part
     pub sealed-there : (k : ℕ) (cp : List ℕ) → k ≡ tagLength → cp ≡ take (length t) t ++ drop (length t) (take k (drop e there))
         → SealedPart key nonce aad a e l (take e there ++ (cp ++ drop k (drop e there))) true
     sealed-there k cp hk hc =
-        let n : length t ≡ k = length-mark ∙ sym hk in
+        let n : length t ≡ k = length-tagged ∙ sym hk in
         let m : e + k ≤ length there = omega (arith, length-there) in record {
           answer = sym (part-some a e (length l) ae el);
           buffer =

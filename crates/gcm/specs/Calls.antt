@@ -10,7 +10,7 @@ use Rattle.gcm.specs.Gcm.{tagLength, tag, ciphered, sealed, authentic}
 -- sealing a text: the bytes in its place are c, and the tag is t
 pub record Sealed (key nonce aad text c t : List ℕ) : Type 0 where
   pub cipher : c ≡ ciphered key nonce text
-  pub mark : t ≡ tag key nonce aad (ciphered key nonce text)
+  pub tagged : t ≡ tag key nonce aad (ciphered key nonce text)
 
 -- whether a buffer of n bytes has a part from a to e, with room for the tag behind it
 unfoldable pub hasPart : ℕ → ℕ → ℕ → Bool

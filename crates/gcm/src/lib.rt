@@ -105,19 +105,20 @@ pub fn first_16(s: &[u8]) -> [u8; 16]
 pub fn first_12(s: &[u8]) -> [u8; 12]
     ensures { λ r. ⌜ r ≡ bytesFrom 12 0 (now (s .entry)) ⌝ }
 {
+    let k = first_16(s);
     [
-        ghash::byte_at(s, 0),
-        ghash::byte_at(s, 1),
-        ghash::byte_at(s, 2),
-        ghash::byte_at(s, 3),
-        ghash::byte_at(s, 4),
-        ghash::byte_at(s, 5),
-        ghash::byte_at(s, 6),
-        ghash::byte_at(s, 7),
-        ghash::byte_at(s, 8),
-        ghash::byte_at(s, 9),
-        ghash::byte_at(s, 10),
-        ghash::byte_at(s, 11),
+        k[0],
+        k[1],
+        k[2],
+        k[3],
+        k[4],
+        k[5],
+        k[6],
+        k[7],
+        k[8],
+        k[9],
+        k[10],
+        k[11],
     ]
 }
 

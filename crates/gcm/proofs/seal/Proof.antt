@@ -15,7 +15,7 @@ returns c =
     let k = e .before .before in
     let s = k .before .before .before .args in record {
       cipher = e .encipher .ensures ∙ ap (λ (w : List State). gctr w (s .nonce) 2 (s .text .now)) (k .expand-key .ensures);
-      mark = simp (c .tag-under .ensures, e .encipher .ensures, k .expand-key .ensures);
+      tagged = simp (c .tag-under .ensures, e .encipher .ensures, k .expand-key .ensures);
     }
 
 pub seal-spec : {M : Type 1} → statement M
