@@ -1,11 +1,10 @@
 -- GCM's strings: their lengths go by the lengths of what goes in alone, and what was sealed opens to the text again.
 use mathlib.Core.Path.{_≡_, refl, sym, ap, ap₂, _∙_}
-use mathlib.Core.Bool.{Bool, true, false, _&&_, cond}
-use mathlib.Core.List.{List, [], _∷_, _++_}
-use Prim.Native.Nat.{ℕ, zero, suc, _+_, _≤_}
+use mathlib.Core.Bool.{true, false}
+use mathlib.Core.List.{List, [], _++_}
+use Prim.Native.Nat.{ℕ, _+_, _≤_}
 use native.Mathlib.Omega.{arith}
 use borrow.Author.Tests.{le-leb}
-use lib.Dec.{leb}
 use lib.ListN.{length, take, drop, length-append}
 use lib.Seq.{length-take-le, take-at, drop-at}
 use Rattle.aes.specs.State.{State}
@@ -24,11 +23,17 @@ length-block n = refl
 pub length-under : (w : List State) (nonce aad c : List ℕ) → length (gctr w nonce j0 (blockBytes (authenticated w aad c))) ≡ 16
 length-under w nonce aad c = length-gctr w nonce j0 (blockBytes (authenticated w aad c)) ∙ length-block (authenticated w aad c)
 
-module _ (key nonce aad : List ℕ) where
+module _ (key nonce : List ℕ) where
   pub length-ciphered : (text : List ℕ) → length (ciphered key nonce text) ≡ length text
   unfolding ciphered
   length-ciphered text = length-gctr (keyExpansion key) nonce (inc32 j0) text
 
+  -- deciphering gives back what was enciphered
+  pub ciphered-back : (text : List ℕ) → ciphered key nonce (ciphered key nonce text) ≡ text
+  unfolding ciphered
+  ciphered-back text = gctr-back (keyExpansion key) nonce (inc32 j0) text
+
+module _ (key nonce aad : List ℕ) where
   pub length-tag : (c : List ℕ) → length (tag key nonce aad c) ≡ tagLength
   unfolding tag tagUnder
   length-tag c =
@@ -43,16 +48,16 @@ module _ (key nonce aad : List ℕ) where
   unfolding sealed
   length-sealed text =
       length-append (ciphered key nonce text) (tag key nonce aad (ciphered key nonce text))
-      ∙ ap₂ _+_ (length-ciphered text) (length-tag (ciphered key nonce text))
+      ∙ ap₂ _+_ (length-ciphered key nonce text) (length-tag (ciphered key nonce text))
 
   -- what is sealed, taken apart at the text's length
   pub sealed-cipher : (text : List ℕ) → take (length text) (sealed key nonce aad text) ≡ ciphered key nonce text
   unfolding sealed
-  sealed-cipher text = take-at (ciphered key nonce text) (tag key nonce aad (ciphered key nonce text)) (length text) (length-ciphered text)
+  sealed-cipher text = take-at (ciphered key nonce text) (tag key nonce aad (ciphered key nonce text)) (length text) (length-ciphered key nonce text)
 
   pub sealed-tag : (text : List ℕ) → drop (length text) (sealed key nonce aad text) ≡ tag key nonce aad (ciphered key nonce text)
   unfolding sealed
-  sealed-tag text = drop-at (ciphered key nonce text) (tag key nonce aad (ciphered key nonce text)) (length text) (length-ciphered text)
+  sealed-tag text = drop-at (ciphered key nonce text) (tag key nonce aad (ciphered key nonce text)) (length text) (length-ciphered key nonce text)
 
   -- a tag is accepted exactly where it is the tag
   pub authentic-tag : (c : List ℕ) → authentic key nonce aad c (tag key nonce aad c) ≡ true
@@ -62,11 +67,6 @@ module _ (key nonce aad : List ℕ) where
   pub tag-authentic : (c t : List ℕ) → authentic key nonce aad c t ≡ true → t ≡ tag key nonce aad c
   unfolding authentic
   tag-authentic c t e = sym (same-equal (tag key nonce aad c) t e)
-
-  -- deciphering gives back what was enciphered
-  pub ciphered-back : (text : List ℕ) → ciphered key nonce (ciphered key nonce text) ≡ text
-  unfolding ciphered
-  ciphered-back text = gctr-back (keyExpansion key) nonce (inc32 j0) text
 
   -- where there is room, the tag alone decides
   pub opens-room : (c t : List ℕ) (n : ℕ) → length c ≤ n → opens key nonce aad c t n ≡ authentic key nonce aad c t
@@ -87,7 +87,7 @@ module _ (key nonce aad : List ℕ) where
       → opens key nonce aad (take (length text) (sealed key nonce aad text)) (drop (length text) (sealed key nonce aad text)) n ≡ true
   opens-sealed text n h =
       ap₂ (λ (c t : List ℕ). opens key nonce aad c t n) (sealed-cipher text) (sealed-tag text)
-      ∙ opens-room (ciphered key nonce text) (tag key nonce aad (ciphered key nonce text)) n (rw (length-ciphered text) h)
+      ∙ opens-room (ciphered key nonce text) (tag key nonce aad (ciphered key nonce text)) n (rw (length-ciphered key nonce text) h)
       ∙ authentic-tag (ciphered key nonce text)
 
   pub open-sealed : (text l : List ℕ) → length text ≤ length l
@@ -95,4 +95,4 @@ module _ (key nonce aad : List ℕ) where
   open-sealed text l h =
       opened-right (take (length text) (sealed key nonce aad text)) (drop (length text) (sealed key nonce aad text)) l (opens-sealed text (length l) h)
       ∙ ap (λ (c : List ℕ). ciphered key nonce c ++ drop (length c) l) (sealed-cipher text)
-      ∙ ap₂ (λ (p : List ℕ) (n : ℕ). p ++ drop n l) (ciphered-back text) (length-ciphered text)
+      ∙ ap₂ (λ (p : List ℕ) (n : ℕ). p ++ drop n l) (ciphered-back key nonce text) (length-ciphered key nonce text)

@@ -1,16 +1,16 @@
 -- Bytes taken from a slice, and a part of a buffer sealed where it stands with the tag behind it.
 use mathlib.Core.Path.{_≡_, refl, sym, ap, ap₂, _∙_}
-use mathlib.Core.List.{List, [], _∷_, _++_, append-assoc, append-nil}
-use Prim.Native.Nat.{ℕ, zero, suc, _+_, _-_, _≤_, _<_}
+use mathlib.Core.List.{List, _∷_, _++_, append-assoc, append-nil}
+use Prim.Native.Nat.{ℕ, zero, suc, _+_, _-_, _≤_}
 use native.Mathlib.Omega.{arith}
-use lib.ListN.{length, take, drop, getD, length-append, length-take, length-drop, drop-of-length-le}
+use lib.ListN.{length, take, drop, getD, length-append, length-drop, drop-of-length-le}
 use lib.Seq.{take-at, drop-at, take-all, drop-drop, drop-cons, length-take-le}
 use mathlib.Core.Bool.{Bool, true, false, _&&_}
 use borrow.Author.Tests.{le-leb, leb-true}
 use lib.Dec.{leb}
-use Rattle.gcm.specs.Gcm.{tagLength, tag, ciphered, sealed}
+use Rattle.gcm.specs.Gcm.{tagLength, ciphered, sealed}
 use Rattle.gcm.specs.Calls.{Sealed, hasPart, sealedPart, SealedPart, bytesFrom}
-use Rattle.gcm.proofs.GcmLaws.{length-ciphered, length-tag, length-sealed}
+use Rattle.gcm.proofs.GcmLaws.{length-ciphered, length-tag}
 
 pub bytes-from : (n i : ℕ) (s : List ℕ) → i + n ≤ length s → bytesFrom n i s ≡ take n (drop i s)
 unfolding bytesFrom
@@ -64,7 +64,7 @@ module _ (key nonce aad l : List ℕ) (a e : ℕ) where
     length-cipher : length c ≡ e - a
     length-cipher =
         ap length (s .cipher)
-        ∙ length-ciphered key nonce aad (take (e - a) (drop a l))
+        ∙ length-ciphered key nonce (take (e - a) (drop a l))
         ∙ length-take-le (e - a) (drop a l) (simp length-drop (omega arith))
 
     length-tagged : length t ≡ tagLength

@@ -6,7 +6,6 @@ use mathlib.Core.Path.{_≡_, refl, sym, _∙_}
 use Prim.Native.Nat.{suc, _+_, _-_, _≤_}
 use lib.ListN.{length, take, length-set}
 use lib.Seq.{take-suc-set, take-all}
-use Rattle.aes.specs.State.{stateOf}
 use Rattle.aes.specs.Sbox.{sboxTable}
 use Rattle.aes.specs.KeyExpansion.{rcon, roundKey, roundKeys, keyExpansion}
 use Rattle.aes.proofs.expand_key.Statement.{statement}

@@ -1,6 +1,5 @@
 -- The tag, compared.
 use borrow.Author.Needs.{needs}
-use Rattle.gcm.specs.Gcm.{tagUnder}
 use Rattle.gcm.proofs.matches.Statement.{statement}
 use Rattle.gcm.proofs.matches.Tie as tie
 

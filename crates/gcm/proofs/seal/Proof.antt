@@ -1,6 +1,6 @@
 -- The text is enciphered, and the tag made of what then stands in its place.
 use borrow.Author.Needs.{needs}
-use mathlib.Core.Path.{_≡_, ap, _∙_}
+use mathlib.Core.Path.{ap, _∙_}
 use mathlib.Core.List.{List}
 use Rattle.aes.specs.State.{State}
 use Rattle.gctr.specs.Gctr.{inc32, gctr}

@@ -1,9 +1,7 @@
 -- The buffer is tested, then the part is sealed and the tag laid behind it.
 use borrow.Author.Needs.{needs}
 use native.Mathlib.Omega.{arith}
-use mathlib.Core.Path.{_≡_}
-use Prim.Native.Nat.{_+_, _-_, _≤_}
-use lib.ListN.{length}
+use Prim.Native.Nat.{_+_, _-_}
 use Rattle.gcm.proofs.PartLaws.{unsealed, sealed-there}
 use Rattle.gcm.proofs.seal_part.Statement.{statement}
 use Rattle.gcm.proofs.seal_part.Tie as tie

@@ -1,7 +1,7 @@
 -- The hash enciphered has sixteen bytes, of which the first twelve are the tag.
 use borrow.Author.Needs.{needs}
 use native.Mathlib.Omega.{arith}
-use mathlib.Core.Path.{_≡_, ap, _∙_}
+use mathlib.Core.Path.{ap, _∙_}
 use Rattle.ghash.specs.Hash.{blockBytes}
 use Rattle.gctr.specs.Gctr.{gctr}
 use Rattle.gcm.specs.Gcm.{j0, authenticated, tagUnder}

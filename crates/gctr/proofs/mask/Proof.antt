@@ -3,7 +3,7 @@ use borrow.Author.Needs.{needs}
 use native.Mathlib.Omega.{arith}
 use native.Mathlib.Numerals.{add-one}
 use mathlib.Core.Path.{_≡_, refl, sym, _∙_}
-use Prim.Native.Nat.{_≤_, _-_, _+_, min}
+use Prim.Native.Nat.{_≤_, _-_}
 use lib.ListN.{length, take, length-set}
 use Rattle.gctr.specs.Gctr.{xorWith}
 use Rattle.gctr.proofs.XorLaws.{xor-none, xor-here, xor-store, xor-enough}
