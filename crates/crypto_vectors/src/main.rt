@@ -211,7 +211,7 @@ fn opened(name: &[u8], k: [u8; 16], v: [u8; 12], aad: &[u8], text: &[u8], f: &[u
     tell(
         name,
         b"opened",
-        gcm::open(k, v, aad, &f[5..e], &f[e..e + 12], &mut out),
+        gcm::open_into(k, v, aad, &f[5..e], &f[e..e + 12], &mut out),
     );
     report(name, b"plain text", &out[0..n], text);
 }
@@ -265,7 +265,7 @@ fn flipped(s: &[u8], b: &mut [u8]) -> usize
 fn refused(name: &[u8], what: &[u8], k: [u8; 16], v: [u8; 12], aad: &[u8], c: &[u8], t: &[u8]) {
     let mut out = room();
     let was = room();
-    if gcm::open(k, v, aad, c, t, &mut out) {
+    if gcm::open_into(k, v, aad, c, t, &mut out) {
         tell(name, what, false);
     } else {
         tell(name, what, check::same(&out, &was));

@@ -45,7 +45,14 @@ pub fn seal_part(
 
 // Opens the cipher text c with the tag t into out: where the tag is right and c fits into out, the plain text stands in the
 // first bytes of out; else out stays as it is. Answers which.
-pub fn open(key: [u8; 16], nonce: [u8; 12], aad: &[u8], c: &[u8], t: &[u8], out: &mut [u8]) -> bool
+pub fn open_into(
+    key: [u8; 16],
+    nonce: [u8; 12],
+    aad: &[u8],
+    c: &[u8],
+    t: &[u8],
+    out: &mut [u8],
+) -> bool
     ensures { λ r. ⌜ Opened key nonce (now (aad .entry)) (now (c .entry)) (now (t .entry)) (now (out .entry)) (now (out .exit)) r ⌝ }
 {
     let n = c.len();

@@ -8,8 +8,8 @@ use Rattle.aes.specs.State.{State}
 use Rattle.gctr.specs.Gctr.{inc32, gctr}
 use Rattle.gcm.specs.Gcm.{tag, ciphered, authentic, sameBytes, tagUnder}
 use Rattle.gcm.proofs.OpenLaws.{no-room, forged, opened-there}
-use Rattle.gcm.proofs.open.Statement.{statement}
-use Rattle.gcm.proofs.open.Tie as tie
+use Rattle.gcm.proofs.open_into.Statement.{statement}
+use Rattle.gcm.proofs.open_into.Tie as tie
 
 returns : tie.Need-returns
 returns c =
@@ -62,8 +62,8 @@ returns-3 c =
     ∙ sym (m .matches .ensures)
     ∙ c .if2 .left)
 
-pub open-spec : {M : Type 1} → statement M
-open-spec =
+pub open-into-spec : {M : Type 1} → statement M
+open-into-spec =
     tie.close
     (tie.spec
     returns
