@@ -1,0 +1,3 @@
+pub mod Four
+pub mod Example
+pub mod SboxLaws

@@ -1,0 +1,6 @@
+pub mod State
+pub mod Field
+pub mod Sbox
+pub mod SboxRule
+pub mod Cipher
+pub mod KeyExpansion
