@@ -1,59 +1,21 @@
-// The meter: its state, the test of soundness for every state that can be handed in, and the owner's calls, each of which
-// takes the meter whole and hands the changed meter back beside the number of its refusal, or 0.
-mod body;
-mod line;
-mod owner;
-mod sound;
-
+// The meter: its state, the test of soundness for every state that can be handed in, and the owner's calls. Each call takes
+// the meter whole and hands the changed meter back beside the number of its refusal, or 0; it refuses an unsound meter by 3,
+// then by its own number, and hands a refused meter back as it was.
+use body::BodyState;
+use line::LineState;
 use model::Clock;
-use model::Counters;
-pub use sound::is_sound;
+use model::Name;
+use model::Register;
 use store::Columns;
 use store::Registers;
-use store::Rows;
-
-// How far an association has come.
-pub enum Phase {
-    Idle,
-    Pending,
-    Associated,
-}
-
-// A client of the link: its title, whether its link is up, its association and the services agreed in it.
-pub struct Party {
-    pub title: [u8; 8],
-    pub up: bool,
-    pub phase: Phase,
-    pub agreed: [u8; 3],
-}
-
-// A client that ciphers: its dedicated key, its challenge and the meter's, and the counters.
-pub struct CipherParty {
-    pub party: Party,
-    pub key: [u8; 16],
-    pub client: [u8; 8],
-    pub meter: [u8; 8],
-    pub counters: Counters,
-}
-
-// What decides on frames: the meter's title, the clients V and H, and the P5 flag.
-pub struct LineState {
-    pub title: [u8; 8],
-    pub verification: Party,
-    pub han: CipherParty,
-    pub p5: bool,
-}
-
-// What answers requests: the device name, the clock, the capture period, the record number, registers, columns, rows.
-pub struct BodyState {
-    pub device: [u8; 16],
-    pub clock: Clock,
-    pub period: u32,
-    pub number: u16,
-    pub registers: Registers,
-    pub columns: Columns,
-    pub rows: Rows,
-}
+ghost use mathlib.Core.Path.{_≡_};
+ghost use Rattle.model.specs.Names.{blankName, blankRegister};
+ghost use Rattle.model.specs.State.{newMeter};
+ghost use Rattle.model.specs.Soundness.{sound};
+ghost use Rattle.model.specs.Calls.{Call};
+ghost use Rattle.store.specs.Lists.{held};
+ghost use Rattle.meter.specs.View.{view};
+ghost use Rattle.meter.specs.Promise.{Owned, changed};
 
 pub struct Meter {
     pub line: LineState,
@@ -64,4 +26,179 @@ pub struct Meter {
 pub struct Changed {
     pub refusal: u8,
     pub meter: Meter,
+}
+
+// Whether a meter is sound.
+pub fn is_sound(meter: Meter) -> bool
+    ensures { λ r. ⌜ r ≡ sound (view meter) ⌝ }
+{
+    let b = meter.body;
+    if !body::is_body_sound(b) {
+        return false;
+    }
+    let l = meter.line;
+    line::is_line_sound(l)
+}
+
+impl Meter {
+    // A new meter: its name and titles are taken as given, and all else is empty.
+    pub fn new(device: [u8; 16], title: [u8; 8], verification: [u8; 8], han: [u8; 8]) -> Meter
+        ensures { λ r. ⌜ view r ≡ newMeter device title verification han ⌝ }
+    {
+        let l = line::new_line(title, verification, han);
+        let b = body::new_body(device);
+        Meter { line: l, body: b }
+    }
+
+    // Registers are given anew; columns and rows are emptied. Refusals 3 and 16.
+    pub fn give_registers(mut self, registers: [Register; 16], count: usize) -> Changed
+        ensures { λ r. ⌜ Owned (Call.giveRegisters (held blankRegister count registers)) self r ⌝ }
+    {
+        let m = self;
+        if !is_sound(m) {
+            return refused(3, m);
+        }
+        let given = Registers {
+            count,
+            items: registers,
+        };
+        if !store::registers_accepted(given) {
+            return refused(16, m);
+        }
+        let mut b = m.body;
+        b.registers = given;
+        let columns = body::no_columns();
+        b.columns = columns;
+        let rows = body::no_rows();
+        b.rows = rows;
+        self.body = b;
+        accepted(self)
+    }
+
+    // The value of a register is set. Refusals 3 and 17.
+    pub fn set_value(mut self, name: Name, value: u32) -> Changed
+        ensures { λ r. ⌜ Owned (Call.setValue name value) self r ⌝ }
+    {
+        let m = self;
+        if !is_sound(m) {
+            return refused(3, m);
+        }
+        let mut b = m.body;
+        let registers = b.registers;
+        let a = store::assign(registers, name, value);
+        let found = a.found;
+        if !found {
+            return refused(17, m);
+        }
+        let next = a.registers;
+        b.registers = next;
+        self.body = b;
+        accepted(self)
+    }
+
+    // Columns are set by the names of given registers; rows are emptied. Refusals 3 and 18.
+    pub fn set_columns(mut self, columns: [Name; 16], count: usize) -> Changed
+        ensures { λ r. ⌜ Owned (Call.setColumns (held blankName count columns)) self r ⌝ }
+    {
+        let m = self;
+        if !is_sound(m) {
+            return refused(3, m);
+        }
+        let mut b = m.body;
+        let registers = b.registers;
+        let these = Columns {
+            count,
+            items: columns,
+        };
+        if !store::columns_accepted(registers, these) {
+            return refused(18, m);
+        }
+        b.columns = these;
+        let rows = body::no_rows();
+        b.rows = rows;
+        self.body = b;
+        accepted(self)
+    }
+
+    // The capture period is set. Refusals 3 and 15.
+    pub fn set_period(mut self, period: u32) -> Changed
+        ensures { λ r. ⌜ Owned (Call.setPeriod period) self r ⌝ }
+    {
+        let m = self;
+        if !is_sound(m) {
+            return refused(3, m);
+        }
+        if !calendar::is_permitted(period) {
+            return refused(15, m);
+        }
+        let mut b = m.body;
+        b.period = period;
+        self.body = b;
+        accepted(self)
+    }
+
+    // The clock moves on, and a row is taken where a capture is due. Refusals 3 and 14.
+    pub fn tick(mut self, clock: Clock) -> Changed
+        ensures { λ r. ⌜ Owned (Call.tick clock) self r ⌝ }
+    {
+        let m = self;
+        if !is_sound(m) {
+            return refused(3, m);
+        }
+        if !calendar::is_valid(clock) {
+            return refused(14, m);
+        }
+        let b = m.body;
+        let next = body::ticked(b, clock);
+        self.body = next;
+        accepted(self)
+    }
+
+    // The P5 flag is set or cleared. Refusal 3.
+    pub fn set_p5(mut self, held: bool) -> Changed
+        ensures { λ r. ⌜ Owned (Call.setP5 held) self r ⌝ }
+    {
+        let m = self;
+        if !is_sound(m) {
+            return refused(3, m);
+        }
+        let mut l = m.line;
+        l.p5 = held;
+        self.line = l;
+        accepted(self)
+    }
+
+    // Power-up: links and associations end; counters, rows and record number are cleared. Refusal 3.
+    pub fn power_up(mut self) -> Changed
+        ensures { λ r. ⌜ Owned Call.powerUp self r ⌝ }
+    {
+        let m = self;
+        if !is_sound(m) {
+            return refused(3, m);
+        }
+        let l = m.line;
+        let line = line::powered_up(l);
+        let mut b = m.body;
+        let rows = body::no_rows();
+        b.rows = rows;
+        b.number = 0;
+        self.line = line;
+        self.body = b;
+        accepted(self)
+    }
+}
+
+fn refused(number: u8, meter: Meter) -> Changed
+    ensures { λ r. ⌜ r ≡ changed number meter ⌝ }
+{
+    Changed {
+        refusal: number,
+        meter,
+    }
+}
+
+fn accepted(meter: Meter) -> Changed
+    ensures { λ r. ⌜ r ≡ changed 0 meter ⌝ }
+{
+    Changed { refusal: 0, meter }
 }

@@ -1,5 +1,6 @@
--- The tests of soundness in the two parts that the code makes of them, and what a sound body lets its functions count on.
+-- What the body of the code holds, as the model's Body: the slots of an array above its count are no part of it.
 use mathlib.Core.Bool.{Bool, _&&_}
+use mathlib.Core.List.{List, []}
 use Prim.Native.Nat.{ℕ, _≤_, _<_}
 use lib.ListN.{length}
 use lib.Dec.{eqb, leb}
@@ -7,9 +8,26 @@ use Rattle.model.specs.Limits.{maxRows}
 use Rattle.model.specs.Names.{every}
 use Rattle.model.specs.Clocks.{validClock}
 use Rattle.model.specs.Periods.{permittedPeriod}
-use Rattle.model.specs.State.{Line, Body}
-use Rattle.model.specs.Soundness.{acceptedRegisters, acceptedColumns, kindsKnown, linksStand, servicesOffered}
-use Rattle.meter.specs.declared.BodyState.{BodyState}
+use Rattle.model.specs.State.{Body, newMeter}
+use Rattle.model.specs.Soundness.{acceptedRegisters, acceptedColumns}
+use Rattle.store.specs.Lists.{registersOf, columnsOf, entriesOf}
+use Rattle.body.specs.declared.BodyState.{BodyState}
+
+unfoldable pub bodyOf : BodyState → Body
+bodyOf b =
+    record {
+      device = b .device;
+      clock = b .clock;
+      period = b .period;
+      number = b .number;
+      store = record { registers = registersOf (b .registers); columns = columnsOf (b .columns); rows = entriesOf (b .rows) };
+    }
+
+-- the body of a new meter
+abbrev pub newBody : (device : List ℕ) → Body
+newBody d = newMeter d [] [] [] .body
+
+-- The tests of soundness on the body.
 
 -- the tests on the rows, beside n columns
 unfoldable pub rowsSound : ℕ → Body → Bool
@@ -23,10 +41,7 @@ bodySound b =
     && (acceptedColumns (b .store .registers) (b .store .columns)
     && (permittedPeriod (b .period) && (validClock (b .clock) && rowsSound (length (b .store .columns)) b)))
 
-unfoldable pub lineSound : Line → Bool
-lineSound l = kindsKnown l && (linksStand l && servicesOffered l)
-
--- the counts are within their arrays, and the period is no zero
+-- what a sound body lets its functions count on: counts are within their arrays, and the period is no zero
 pub record Fit (b : BodyState) : Type 0 where
   pub registers : b .registers .count ≤ 16
   pub columns : b .columns .count ≤ 16

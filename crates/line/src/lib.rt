@@ -1,8 +1,5 @@
-// The line's part of soundness: kinds of associations, links under them, services agreed; and what power-up leaves of it.
-use crate::CipherParty;
-use crate::LineState;
-use crate::Party;
-use crate::Phase;
+// The line, which decides on frames: links, associations, counters, keys and titles. Its part of soundness, a new one, and
+// what power-up leaves of it.
 use model::Counters;
 ghost use mathlib.Core.Path.{_≡_};
 ghost use mathlib.Core.List.{List};
@@ -11,8 +8,39 @@ ghost use Rattle.model.specs.Services.{within};
 ghost use Rattle.model.specs.Soundness.{agreedWithin, kindsKnown, linksStand, onLink, servicesOffered};
 ghost use Rattle.model.specs.State.{newPeer, noCounters};
 ghost use Rattle.model.specs.Calls.{poweredLine};
-ghost use Rattle.meter.specs.View.{associationOf, lineOf, newLine, peerOf};
-ghost use Rattle.meter.specs.Parts.{lineSound};
+ghost use Rattle.line.specs.View.{associationOf, lineOf, lineSound, newLine, peerOf};
+
+// How far an association has come.
+pub enum Phase {
+    Idle,
+    Pending,
+    Associated,
+}
+
+// A client of the link: its title, whether its link is up, its association and the services agreed in it.
+pub struct Party {
+    pub title: [u8; 8],
+    pub up: bool,
+    pub phase: Phase,
+    pub agreed: [u8; 3],
+}
+
+// A client that ciphers: its dedicated key, its challenge and the meter's, and the counters.
+pub struct CipherParty {
+    pub party: Party,
+    pub key: [u8; 16],
+    pub client: [u8; 8],
+    pub meter: [u8; 8],
+    pub counters: Counters,
+}
+
+// What decides on frames: the meter's title, the clients V and H, and the P5 flag.
+pub struct LineState {
+    pub title: [u8; 8],
+    pub verification: Party,
+    pub han: CipherParty,
+    pub p5: bool,
+}
 
 // Whether the line passes its tests.
 pub fn is_line_sound(line: LineState) -> bool
@@ -126,10 +154,12 @@ pub fn powered_up(line: LineState) -> LineState
 {
     let title = line.title;
     let v = line.verification;
-    let w = new_party(v.title);
+    let t = v.title;
+    let w = new_party(t);
     let h = line.han;
     let p = h.party;
-    let q = new_party(p.title);
+    let u = p.title;
+    let q = new_party(u);
     let k = new_cipher_party(q);
     LineState {
         title,
