@@ -1,0 +1,19 @@
+-- `meter::Meter::set_period` meets its contract.
+use mathlib.Core.Path.{refl, sym, _∙_}
+use borrow.Author.Tests.{not-true, not-false}
+use Rattle.meter.proofs.MeterLaws.{unsound, refuses, accepts, period-refused, period-set}
+use borrow.Author.Needs.{needs}
+use Rattle.meter.proofs.Meter.set_period.Statement.{statement}
+use Rattle.meter.proofs.Meter.set_period.Tie as tie
+
+returns : tie.Need-returns
+returns c = rw (c .refused .ensures) (unsound _ _ refl (sym (c .before .before .is-sound .ensures) ∙ not-true _ (c .before .if1 .taken)))
+
+returns-2 : tie.Need-returns-2
+returns-2 c = rw (c .refused2 .ensures) (refuses _ (c .before .before .before .before .before .args .self) refl _ (sym (c .before .before .before .before .is-sound .ensures) ∙ not-false _ (c .before .before .before .if1 .left)) (λ p. period-refused p (c .before .before .before .before .before .args .self) (c .before .before .before .before .before .args .period) (sym (c .before .before .is-permitted .ensures) ∙ not-true _ (c .before .if2 .taken))))
+
+returns-3 : tie.Need-returns-3
+returns-3 c = rw (c .accepted .ensures) (accepts _ (c .before .before .before .before .before .before .args .self) refl _ (sym (c .before .before .before .before .before .is-sound .ensures) ∙ not-false _ (c .before .before .before .before .if1 .left)) (λ p. period-set p (c .before .before .before .before .before .before .args .self) (c .before .before .before .before .before .before .args .period) (sym (c .before .before .before .is-permitted .ensures) ∙ not-false _ (c .before .before .if2 .left))))
+
+pub set-period-spec : {M : Type 1} → statement M
+set-period-spec = tie.close (tie.spec (λ c κs. search needs) (λ c κs. search needs) returns (λ c κs. search needs) (λ c κs. search needs) returns-2 (λ c κs. search needs) returns-3)

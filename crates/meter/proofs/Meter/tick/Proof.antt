@@ -1,0 +1,22 @@
+-- `meter::Meter::tick` meets its contract.
+use mathlib.Core.Path.{refl, sym, _∙_}
+use borrow.Author.Tests.{not-true, not-false}
+use Rattle.meter.proofs.MeterLaws.{fits, unsound, refuses, accepts, tick-refused, tick-taken}
+use borrow.Author.Needs.{needs}
+use Rattle.meter.proofs.Meter.tick.Statement.{statement}
+use Rattle.meter.proofs.Meter.tick.Tie as tie
+
+returns : tie.Need-returns
+returns c = rw (c .refused .ensures) (unsound _ _ refl (sym (c .before .before .is-sound .ensures) ∙ not-true _ (c .before .if1 .taken)))
+
+returns-2 : tie.Need-returns-2
+returns-2 c = rw (c .refused2 .ensures) (refuses _ (c .before .before .before .before .before .args .self) refl _ (sym (c .before .before .before .before .is-sound .ensures) ∙ not-false _ (c .before .before .before .if1 .left)) (λ p. tick-refused p (c .before .before .before .before .before .args .self) (c .before .before .before .before .before .args .clock) (sym (c .before .before .is-valid .ensures) ∙ not-true _ (c .before .if2 .taken))))
+
+ticked-requires : tie.Need-ticked-requires
+ticked-requires c κs = fits _ (sym (c .before .before .before .before .is-sound .ensures) ∙ not-false _ (c .before .before .before .if1 .left))
+
+returns-3 : tie.Need-returns-3
+returns-3 c = rw (c .accepted .ensures) (accepts _ (c .before .before .before .before .before .before .before .args .self) refl _ (sym (c .before .before .before .before .before .before .is-sound .ensures) ∙ not-false _ (c .before .before .before .before .before .if1 .left)) (λ p. tick-taken p (c .before .before .before .before .before .before .before .args .self) (c .before .before .before .before .before .before .before .args .clock) _ (sym (c .before .before .before .before .is-valid .ensures) ∙ not-false _ (c .before .before .before .if2 .left)) (c .before .ticked .ensures)))
+
+pub tick-spec : {M : Type 1} → statement M
+tick-spec = tie.close (tie.spec (λ c κs. search needs) (λ c κs. search needs) returns (λ c κs. search needs) (λ c κs. search needs) returns-2 ticked-requires (λ c κs. search needs) returns-3)

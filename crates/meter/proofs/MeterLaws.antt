@@ -1,0 +1,125 @@
+-- Soundness of the whole from its two halves, and the three ways in which an owner's call ends: refused by 3, refused by its
+-- own number, accepted; then, for each call, that the meter in code is the one that the model says.
+use mathlib.Core.Path.{_≡_, refl, sym, _∙_}
+use mathlib.Core.Bool.{Bool, true, false, _&&_, and-assoc, and-true}
+use mathlib.Core.List.{[]}
+use Prim.Native.Nat.{ℕ}
+use Rattle.model.specs.declared.Name.{Name}
+use Rattle.model.specs.declared.Clock.{Clock}
+use Rattle.model.specs.Names.{given}
+use Rattle.model.specs.Clocks.{validClock}
+use Rattle.model.specs.Periods.{permittedPeriod}
+use Rattle.model.specs.Soundness.{registerList, columnList, periodPermitted, clockValid, rowClocksValid, rowCount, rowCells, associationKind, associationOnLink, agreedServices, passes, acceptedRegisters, acceptedColumns, sound}
+use Rattle.model.specs.Calls.{Call, giveRegisters, setValue, setColumns, setPeriod, tick, setP5, powerUp, refused, done, Protocol, ticked, poweredLine, act, early, step}
+use Rattle.model.proofs.ListLaws.{both}
+use Rattle.store.specs.declared.Registers.{Registers}
+use Rattle.store.specs.declared.Columns.{Columns}
+use Rattle.store.specs.declared.Rows.{Rows}
+use Rattle.store.specs.declared.Assigned.{Assigned}
+use Rattle.store.specs.Lists.{registersOf, columnsOf, entriesOf}
+use Rattle.store.specs.Promises.{Assigns}
+use Rattle.line.specs.declared.LineState.{LineState}
+use Rattle.line.specs.View.{lineOf, lineSound}
+use Rattle.body.specs.declared.BodyState.{BodyState}
+use Rattle.body.specs.View.{bodyOf, rowsSound, bodySound, Fit}
+use Rattle.body.proofs.BodyLaws.{sound-fits}
+use Rattle.meter.specs.declared.Meter.{Meter}
+use Rattle.meter.specs.View.{view}
+use Rattle.meter.specs.Promise.{Owned, changed}
+
+-- Soundness.
+
+regroup : (a b c d e f g h i j : Bool) → a && (b && (c && (d && (e && (f && (g && (h && (i && (j && true)))))))))
+    ≡ a && (b && (c && (d && (e && (f && g))))) && (h && (i && j))
+regroup a b c d e f g h i j = simp (and-assoc, and-true)
+
+pub sound-is : (m : Meter) → sound (view m) ≡ (bodySound (bodyOf (m .body)) && lineSound (lineOf (m .line)))
+unfolding sound bodySound rowsSound lineSound view
+sound-is m =
+    regroup (passes registerList (view m)) (passes columnList (view m)) (passes periodPermitted (view m)) (passes clockValid (view m))
+    (passes rowClocksValid (view m)) (passes rowCount (view m)) (passes rowCells (view m)) (passes associationKind (view m))
+    (passes associationOnLink (view m)) (passes agreedServices (view m))
+
+pub fits : (m : Meter) → sound (view m) ≡ true → Fit (m .body)
+fits m s = sound-fits (m .body) (both (bodySound (bodyOf (m .body))) (lineSound (lineOf (m .line))) (sym (sound-is m) ∙ s) .0)
+
+-- How a call ends.
+
+module _ (c : Call) (m : Meter) (own : early c ≡ 0) where
+  pub unsound : sound (view m) ≡ false → Owned c m (changed 3 m)
+  unfolding step
+  unsound s = record { promised = λ p. rw (own, s) (record { refusal = refl; count = refl; meter = refl; room = refl }); kept = λ _. refl }
+
+  pub refuses : (n : ℕ) → sound (view m) ≡ true → ((p : Protocol) → act p c (view m) ≡ refused n (view m)) → Owned c m (changed n m)
+  unfolding step
+  refuses n s h = record { promised = λ p. rw (own, s, h p) (record { refusal = refl; count = refl; meter = refl; room = refl }); kept = λ _. refl }
+
+  pub accepts : (next : Meter) → sound (view m) ≡ true → ((p : Protocol) → act p c (view m) ≡ done (view next)) → Owned c m (changed 0 next)
+  unfolding step
+  accepts next s h = record { promised = λ p. rw (own, s, h p) (record { refusal = refl; count = refl; meter = refl; room = refl }); kept = λ k. absurd (k refl) }
+
+-- The meters.
+
+abbrev pub withBodyState : BodyState → Meter → Meter
+withBodyState b m = record { line = m .line; body = b }
+
+abbrev pub withStores : Registers → Columns → Rows → BodyState → BodyState
+withStores r c w b =
+    record { device = b .device; clock = b .clock; period = b .period; number = b .number; registers = r; columns = c; rows = w }
+
+module _ (p : Protocol) (m : Meter) where
+  pub registers-refused : (s : Registers) → acceptedRegisters (registersOf s) ≡ false → act p (giveRegisters (registersOf s)) (view m) ≡ refused 16 (view m)
+  unfolding act
+  registers-refused s h = rw h
+
+  pub registers-given : (s : Registers) (c : Columns) (w : Rows) → acceptedRegisters (registersOf s) ≡ true → columnsOf c ≡ [] → entriesOf w ≡ []
+      → act p (giveRegisters (registersOf s)) (view m) ≡ done (view (withBodyState (withStores s c w (m .body)) m))
+  unfolding act view bodyOf
+  registers-given s c w h e f = rw (h, e, f)
+
+  pub value-refused : (n : Name) (v : ℕ) → given n (registersOf (m .body .registers)) ≡ false → act p (setValue n v) (view m) ≡ refused 17 (view m)
+  unfolding act view bodyOf
+  value-refused n v h = rw h
+
+  pub value-set : (n : Name) (v : ℕ) (a : Assigned) → Assigns (m .body .registers) n v a → a .found ≡ true
+      → act p (setValue n v) (view m) ≡ done (view (withBodyState (withStores (a .registers) (m .body .columns) (m .body .rows) (m .body)) m))
+  unfolding act view bodyOf
+  value-set n v a h t = rw (sym (h .found) ∙ t, h .set t)
+
+  pub columns-refused : (c : Columns) → acceptedColumns (registersOf (m .body .registers)) (columnsOf c) ≡ false → act p (setColumns (columnsOf c)) (view m) ≡ refused 18 (view m)
+  unfolding act view bodyOf
+  columns-refused c h = rw h
+
+  pub columns-set : (c : Columns) (w : Rows) → acceptedColumns (registersOf (m .body .registers)) (columnsOf c) ≡ true → entriesOf w ≡ []
+      → act p (setColumns (columnsOf c)) (view m) ≡ done (view (withBodyState (withStores (m .body .registers) c w (m .body)) m))
+  unfolding act view bodyOf
+  columns-set c w h e = rw (h, e)
+
+  pub period-refused : (d : ℕ) → permittedPeriod d ≡ false → act p (setPeriod d) (view m) ≡ refused 15 (view m)
+  unfolding act
+  period-refused d h = rw h
+
+  pub period-set : (d : ℕ) → permittedPeriod d ≡ true
+      → act p (setPeriod d) (view m)
+      ≡ done (view (withBodyState (record { device = m .body .device; clock = m .body .clock; period = d; number = m .body .number; registers = m .body .registers; columns = m .body .columns; rows = m .body .rows }) m))
+  unfolding act view bodyOf
+  period-set d h = rw h
+
+  pub tick-refused : (t : Clock) → validClock t ≡ false → act p (tick t) (view m) ≡ refused 14 (view m)
+  unfolding act
+  tick-refused t h = rw h
+
+  pub tick-taken : (t : Clock) (b : BodyState) → validClock t ≡ true → bodyOf b ≡ ticked t (bodyOf (m .body)) → act p (tick t) (view m) ≡ done (view (withBodyState b m))
+  unfolding act view
+  tick-taken t b h e = rw (h, e)
+
+  pub p5-set : (f : Bool) → act p (setP5 f) (view m)
+      ≡ done (view (record { line = record { title = m .line .title; verification = m .line .verification; han = m .line .han; p5 = f }; body = m .body }))
+  unfolding act view lineOf
+  p5-set f = refl
+
+  pub powered : (l : LineState) (w : Rows) → lineOf l ≡ poweredLine (lineOf (m .line)) → entriesOf w ≡ []
+      → act p powerUp (view m)
+      ≡ done (view (record { line = l; body = record { device = m .body .device; clock = m .body .clock; period = m .body .period; number = 0; registers = m .body .registers; columns = m .body .columns; rows = w } }))
+  unfolding act view bodyOf
+  powered l w e f = rw (e, f)

@@ -1,0 +1,16 @@
+-- `meter::is_sound` meets its contract.
+use mathlib.Core.Path.{sym, _∙_}
+use borrow.Author.Tests.{not-true, not-false}
+use Rattle.meter.proofs.MeterLaws.{sound-is}
+use borrow.Author.Needs.{needs}
+use Rattle.meter.proofs.is_sound.Statement.{statement}
+use Rattle.meter.proofs.is_sound.Tie as tie
+
+returns : tie.Need-returns
+returns c = rw (sound-is (c .before .before .before .args .meter), sym (c .before .is-body-sound .ensures) ∙ not-true _ (c .if1 .taken))
+
+returns-2 : tie.Need-returns-2
+returns-2 c = rw (sound-is (c .before .before .before .before .before .args .meter), sym (c .before .before .before .is-body-sound .ensures) ∙ not-false _ (c .before .before .if1 .left)) (c .is-line-sound .ensures)
+
+pub is-sound-spec : {M : Type 1} → statement M
+is-sound-spec = tie.close (tie.spec (λ c κs. search needs) returns (λ c κs. search needs) returns-2)
