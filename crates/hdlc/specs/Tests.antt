@@ -1,7 +1,8 @@
 -- The tests of a received frame (document 01, "The frame"): when a frame fails each, their order, the first that fails, its
 -- refusal number, and the byte at which it fails. Everything else about a refused frame follows from these.
 use mathlib.Core.Bool.{Bool, true, false, not, _&&_, _||_, cond}
-use mathlib.Core.List.{List, [], _∷_}
+use mathlib.Core.List.{List, [], _∷_, _++_}
+use mathlib.Core.Path.{_≡_}
 use Prim.Native.Nat.{ℕ, _-_, _/_, _%_}
 use lib.Dec.{eqb, ltb}
 use lib.ListN.{length, take}
@@ -95,6 +96,19 @@ frameTests =
 unfoldable pub firstFailing : Side → List FrameTest → List ℕ → Verdict
 firstFailing r [] f = Passed
 firstFailing r (t ∷ ts) f = cond (fails r t f) (Failed t) (firstFailing r ts f)
+
+-- the frame passes every test of a list
+pub data AllPass (r : Side) (f : List ℕ) : List FrameTest → Type 0 where
+  none : AllPass r f []
+  more : {t : FrameTest} {ts : List FrameTest} → fails r t f ≡ false → AllPass r f ts → AllPass r f (t ∷ ts)
+
+-- t is a test of the list that the frame fails, and it passes all before it; proofs/TestLaws shows it of `firstFailing`
+pub record FirstOf (r : Side) (ts : List FrameTest) (f : List ℕ) (t : FrameTest) : Type 0 where
+  pub before : List FrameTest
+  pub after : List FrameTest
+  pub order : ts ≡ before ++ t ∷ after
+  pub passed : AllPass r f before
+  pub failed : fails r t f ≡ true
 
 -- the refusal of document 01 that a test belongs to
 abbrev pub numberOf : FrameTest → ℕ

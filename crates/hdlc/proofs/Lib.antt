@@ -1,0 +1,4 @@
+pub mod LayoutLaws
+pub mod TestLaws
+pub mod ReadingLaws
+pub mod ReplyLaws
