@@ -1,5 +1,5 @@
--- Laws of the frames that go out: their lengths, how the writers' pieces make a frame, and `framed`, by which a caller that
--- wrote information from byte 8 on learns what its buffer holds once the frame stands around it.
+-- Laws of the frames that go out: how the writers' pieces make a frame, and `framed`, by which a caller that wrote
+-- information from byte 8 on learns what its buffer holds once the frame stands around it.
 use mathlib.Core.Path.{_≡_, refl, sym, ap, _∙_}
 use mathlib.Core.List.{List, [], _∷_, _++_, append-assoc}
 use Prim.Native.Nat.{ℕ, _+_, _-_, _<_, _≤_}
@@ -11,38 +11,11 @@ use Rattle.wire.specs.Numbers.{lowFirst}
 use Rattle.wire.specs.Reading.{part}
 use Rattle.wire.specs.Wrote.{Wrote}
 use Rattle.wire.proofs.WroteLaws.{then, stands, there, untouched, past, whole}
-use Rattle.hdlc.specs.Layout.{flag, headBytes, checked, flagged, frameOf}
-use Rattle.hdlc.specs.Replies.{Sent}
-
-pub length-head : (l d s c : ℕ) → length (headBytes l d s c) ≡ 5
-unfolding headBytes
-length-head l d s c = refl
-
-length-checked : (bs : List ℕ) → length (checked bs) ≡ length bs + 2
-unfolding checked
-length-checked bs = length-append bs (lowFirst 2 (checkOf bs))
-
-length-flagged : (bs : List ℕ) → length (flagged bs) ≡ length bs + 2
-unfolding flagged
-length-flagged bs = simp length-append (omega arith)
-
--- a frame with information
-pub frame-full : (d s c : ℕ) (i : List ℕ) → 0 < length i → frameOf d s c i ≡ flagged (checked (checked (headBytes (9 + length i) d s c) ++ i))
-unfolding frameOf
-frame-full d s c [] h = absurd (omega arith)
-frame-full d s c (x ∷ xs) h = refl
-
--- a frame takes 9 bytes, or 11 around its information
-pub length-plain : (d s c : ℕ) → length (frameOf d s c []) ≡ 9
-unfolding frameOf
-length-plain d s c =
-    omega (arith, length-flagged (checked (headBytes 7 d s c)), length-checked (headBytes 7 d s c), length-head 7 d s c)
-
-pub length-full : (d s c : ℕ) (i : List ℕ) → 0 < length i → length (frameOf d s c i) ≡ length i + 11
-length-full d s c i h =
-    let hd = headBytes (9 + length i) d s c in
-    ap length (frame-full d s c i h)
-    ∙ omega (arith, length-flagged (checked (checked hd ++ i)), length-checked (checked hd ++ i), length-append (checked hd) i, length-checked hd, length-head (9 + length i) d s c)
+use Rattle.hdlc.specs.Layout.{flag, ui, headBytes, checked, flagged, frameOf}
+use Rattle.hdlc.specs.Tests.{replyLlc}
+use Rattle.hdlc.specs.Replies.{apduFrame, dataFrame, Sent}
+use Rattle.hdlc.specs.declared.Head.{Head}
+use Rattle.hdlc.proofs.LayoutLaws.{length-head, length-checked, frame-full, length-full}
 
 -- a frame that was written from the start on
 pub sent : {l m bs : List ℕ} {r : ℕ} → Wrote l 0 m r bs → Sent bs l m r
@@ -93,3 +66,11 @@ framed {l} {m} {p} {info} {e} {r} d s c h w u =
     let v : Sent (frameOf d s c info) m p r = rw t at u in
     let k : e ≤ length (frameOf d s c info) = omega (arith, w .next, length-full d s c info h) in
     record { holds = v .holds ∙ ap (λ (x : List ℕ). frameOf d s c info ++ x) (past w (length (frameOf d s c info)) k); count = v .count }
+
+-- the same of an APDU that was written after its LLC
+pub apdu-framed : {l m n p apdu : List ℕ} {b e r : ℕ} (h : Head) → Wrote l 8 m b replyLlc → Wrote m b n e apdu → Sent (dataFrame h (part 8 e n)) n p r → Sent (apduFrame h apdu) l p r
+apdu-framed h w u v = framed (h .source) (h .destination) ui (omega arith) (then w u) v
+
+-- the frame of an APDU is 14 bytes longer
+pub length-apdu : (h : Head) (a : List ℕ) → length (apduFrame h a) ≡ length a + 14
+length-apdu h a = length-full (h .source) (h .destination) ui (replyLlc ++ a) (omega arith) ∙ omega arith

@@ -16,7 +16,7 @@ passed-never {t} q = let z : _≡_ {A = ℕ} 0 1 = cc in omega arith
 same-test : {t u : FrameTest} → Failed t ≡ Failed u → t ≡ u
 same-test {t} {u} q = cc
 
-by-test : {P : Type 0} (b : Bool) → (b ≡ true → P) → (b ≡ false → P) → P
+pub by-test : {P : Type 0} (b : Bool) → (b ≡ true → P) → (b ≡ false → P) → P
 by-test true p q = p refl
 by-test false p q = q refl
 
@@ -55,14 +55,22 @@ module _ (r : Side) (f : List ℕ) where
       record { before = []; after = xs; order = ap (λ y. y ∷ xs) p; passed = none; failed = rw (sym p) e })
       (λ e.
       let n = names-first xs (sym (passes-first x xs e) ∙ q) in
-      record { before = x ∷ n .before; after = n .after; order = ap (λ ys. x ∷ ys) (n .order); passed = more e (n .passed); failed = n .failed })
+      record { before = x ∷ n .before; after = n .after; order = ap (λ ys. x ∷ ys) (n .order); passed = more x e (n .passed); failed = n .failed })
 
   -- where no test is named, all pass; and the other way round
   pub all-pass : (ts : List FrameTest) → firstFailing r ts f ≡ Passed → AllPass r f ts
   all-pass [] q = none
   all-pass (x ∷ xs) q =
-      by-test (fails r x f) (λ e. absurd (passed-never (sym q ∙ fails-first x xs e))) (λ e. more e (all-pass xs (sym (passes-first x xs e) ∙ q)))
+      by-test (fails r x f) (λ e. absurd (passed-never (sym q ∙ fails-first x xs e))) (λ e. more x e (all-pass xs (sym (passes-first x xs e) ∙ q)))
+
+  pub passes-in : (xs ys : List FrameTest) (t : FrameTest) → AllPass r f (xs ++ t ∷ ys) → fails r t f ≡ false
+  passes-in [] ys t (more _ e p) = e
+  passes-in (x ∷ xs) ys t (more _ e p) = passes-in xs ys t p
+
+  pub passes-both : {xs ys : List FrameTest} → AllPass r f xs → AllPass r f ys → AllPass r f (xs ++ ys)
+  passes-both none q = q
+  passes-both (more t e p) q = more t e (passes-both p q)
 
   pub none-fails : {ts : List FrameTest} → AllPass r f ts → firstFailing r ts f ≡ Passed
   none-fails none = passes-none
-  none-fails (more {t} {ts} e p) = passes-first t ts e ∙ none-fails p
+  none-fails (more t {ts} e p) = passes-first t ts e ∙ none-fails p

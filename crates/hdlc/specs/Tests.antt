@@ -100,7 +100,7 @@ firstFailing r (t ∷ ts) f = cond (fails r t f) (Failed t) (firstFailing r ts f
 -- the frame passes every test of a list
 pub data AllPass (r : Side) (f : List ℕ) : List FrameTest → Type 0 where
   none : AllPass r f []
-  more : {t : FrameTest} {ts : List FrameTest} → fails r t f ≡ false → AllPass r f ts → AllPass r f (t ∷ ts)
+  more : (t : FrameTest) {ts : List FrameTest} → fails r t f ≡ false → AllPass r f ts → AllPass r f (t ∷ ts)
 
 -- t is a test of the list that the frame fails, and it passes all before it; proofs/TestLaws shows it of `firstFailing`
 pub record FirstOf (r : Side) (ts : List FrameTest) (f : List ℕ) (t : FrameTest) : Type 0 where
