@@ -1,0 +1,88 @@
+// HDLC frames of the P2 link (document 01, "The frame"): received ones read, replies written. Reading answers for every
+// byte slice; a reply's writer asks for room only. specs/ says what is read and written; proofs/ has the laws for callers.
+mod read;
+mod tests;
+mod write;
+
+use model::Client;
+pub use read::read_frame;
+pub use tests::number_of;
+pub use tests::place_of;
+pub use write::put_data;
+pub use write::put_dm;
+pub use write::put_frmr;
+pub use write::put_llc;
+pub use write::put_ua;
+
+// The tests of a received frame, in the order of document 01: eight of refusal 4, one of 5, one of 8, eight of 9.
+pub enum FrameTest {
+    ShortFrame,
+    FlagMissing,
+    FrameType,
+    LengthMismatch,
+    LengthEightOrNine,
+    WrongFcs,
+    WrongHcs,
+    EvenAddress,
+    FrmrReceived,
+    OverLength,
+    SegmentBit,
+    PfClear,
+    WrongDestination,
+    WrongSource,
+    UnknownControl,
+    LinkDownWithInformation,
+    ShortInformation,
+    WrongLlc,
+}
+
+// What a list of tests comes to: the first that fails, or none.
+pub enum Verdict {
+    Failed(FrameTest),
+    Passed,
+}
+
+// Addresses and control as they were received. A reply exchanges the addresses, and an FRMR repeats the control.
+pub struct Head {
+    pub destination: u8,
+    pub source: u8,
+    pub control: u8,
+}
+
+// Who a source address belongs to.
+pub enum Sender {
+    Known(Client),
+    Unknown,
+}
+
+// What a received frame is.
+pub enum Frame {
+    // Refused by a test, and nothing goes out.
+    Unanswered(FrameTest),
+    // Refused by a test, and FRMR goes out.
+    Rejected(FrameTest, Head),
+    // A link is to come up; whether the frame has information.
+    LinkUp {
+        client: Client,
+        head: Head,
+        information: bool,
+    },
+    // A link is to go down.
+    LinkDown {
+        client: Client,
+        head: Head,
+    },
+    // An APDU stands in the frame from `start` up to `end`.
+    Apdu {
+        client: Client,
+        head: Head,
+        start: usize,
+        end: usize,
+    },
+}
+
+// The first byte of the field that a test is about, counted from 0; none for a test of the whole frame.
+pub enum Place {
+    Byte(usize),
+    Nowhere,
+}
