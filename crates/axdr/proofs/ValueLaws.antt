@@ -15,16 +15,24 @@ use Rattle.axdr.specs.declared.Layout.{Layout}
 use Rattle.axdr.specs.declared.Layout.the-variants.{Fixed, Octets, Elements, Unlisted}
 use Rattle.axdr.specs.Values.{contentEnd, elementsEnd, greatestDepth, layoutOf, valueEnd, valueWithin}
 
--- One step of each.
+-- The turns of the loop over elements: none is left; the next one ends somewhere; there is no next one.
 
-pub elements-none : (one : ℕ → End) (n at : ℕ) → n ≡ 0 → elementsEnd one n at ≡ At at
+pub elements-none : (one : ℕ → End) (n at : ℕ) → n ≤ 0 → elementsEnd one n at ≡ At at
 unfolding elementsEnd
-elements-none one n at e = rw e
+elements-none one zero at h = refl
+elements-none one (suc n) at h = absurd (omega arith)
 
-pub elements-more : (one : ℕ → End) (n at : ℕ) → (n ≡ 0 → ⊥) → elementsEnd one n at ≡ thenAt (one at) Bad (elementsEnd one (n - 1))
+pub elements-turn : (one : ℕ → End) (n at : ℕ) {e : ℕ} → 0 < n → one at ≡ At e → elementsEnd one (n - 1) e ≡ elementsEnd one n at
 unfolding elementsEnd
-elements-more one zero at h = absurd (h refl)
-elements-more one (suc n) at h = rw sub-one
+elements-turn one zero at h q = absurd (omega arith)
+elements-turn one (suc n) at h q = rw (sub-one, q)
+
+pub elements-stop : (one : ℕ → End) (n at : ℕ) → 0 < n → one at ≡ Bad → elementsEnd one n at ≡ Bad
+unfolding elementsEnd
+elements-stop one zero at h q = absurd (omega arith)
+elements-stop one (suc n) at h q = rw q
+
+-- One step of the value.
 
 pub value-none : (d : ℕ) (s : List ℕ) (at : ℕ) → d ≡ 0 → valueWithin d s at ≡ Bad
 unfolding valueWithin

@@ -59,13 +59,16 @@ fn value_within(s: &[u8], at: usize, depth: usize) -> End
 fn elements_end(s: &[u8], at: usize, depth: usize, count: u32) -> End
     ensures { λ r. ⌜ r ≡ elementsEnd (valueWithin depth (now (s .entry))) count at ⌝ }
 {
-    if count == 0 {
-        return End::At(at);
+    let mut next = at;
+    let mut left = count;
+    while 0 < left {
+        let End::At(end) = value_within(s, next, depth) else {
+            return End::Bad;
+        };
+        next = end;
+        left -= 1;
     }
-    let End::At(next) = value_within(s, at, depth) else {
-        return End::Bad;
-    };
-    elements_end(s, next, depth, count - 1)
+    End::At(next)
 }
 
 // The position after a length and as many bytes.

@@ -1,15 +1,12 @@
 -- `axdr::value_within` and `axdr::elements_end`, which call each other, meet their contracts. From a value to its elements
--- the depth falls; from the elements to a value, and to the elements after it, their number falls. A count fits two bytes,
--- so the measure takes 65537 for each level of depth.
-use mathlib.Core.Path.{_≡_, sym, _∙_}
+-- the remaining depth falls; from element to element the number of those left.
+use mathlib.Core.Path.{_≡_, refl, sym, _∙_}
 use Prim.Native.Nat.{ℕ, _+_, _-_, _*_, _<_}
-use native.Mathlib.Omega.{arith}
 use borrow.Author.Needs.{needs}
 use borrow.Fn.Kinds.{In}
 use borrow.Fn.PlainCycle.{Measures, is, falls, and}
-use Rattle.wire.proofs.LengthLaws.{length-read}
-use Rattle.axdr.specs.Values.{contentEnd, valueWithin}
-use Rattle.axdr.proofs.ValueLaws.{elements-none, elements-more, value-none, value-more}
+use Rattle.axdr.specs.Values.{contentEnd, elementsEnd, valueWithin}
+use Rattle.axdr.proofs.ValueLaws.{elements-none, elements-stop, elements-turn, value-none, value-more}
 use Rattle.axdr.proofs.elements_end.Reads as elements-end
 use Rattle.axdr.proofs.elements_end.Kinds as elements-end-kinds
 use Rattle.axdr.proofs.+elements_end+value_within.Lts-elements_end as elements-end-lts
@@ -25,10 +22,10 @@ use Rattle.axdr.proofs.+elements_end+value_within.{statement}
 use Rattle.axdr.proofs.+elements_end+value_within.Tie.{close}
 
 abbrev μ-elements-end : Measures 1 elements-end-kinds.ps ℕ
-μ-elements-end κs a = a .1 .1 .0 * 65537 + a .1 .1 .1 .0 + 1
+μ-elements-end κs a = a .1 .1 .0 * 2 + 1
 
 abbrev μ-value-within : Measures 1 value-within-kinds.ps ℕ
-μ-value-within κs a = a .1 .1 .0 * 65537
+μ-value-within κs a = a .1 .1 .0 * 2
 
 abbrev elements-end-at : ℕ → In 1 elements-end-kinds.ps
 elements-end-at t = and 1 elements-end-kinds.ps (is 1 elements-end-kinds.ps μ-elements-end t) elements-end.Pre
@@ -42,9 +39,17 @@ value-within-at t = and 1 value-within-kinds.ps (is 1 value-within-kinds.ps μ-v
 abbrev value-within-below : ℕ → In 1 value-within-kinds.ps
 value-within-below t = and 1 value-within-kinds.ps (falls 1 value-within-kinds.ps _<_ μ-value-within t) value-within.Pre
 
+-- what is left of the elements ends where all of them do
+abbrev Inv-loop : elements-end-lts.InvT-loop
+Inv-loop s at depth count next₀ left₀ next left =
+    elementsEnd (valueWithin depth s) left next ≡ elementsEnd (valueWithin depth s) count at
+
+abbrev μ-loop : elements-end-lts.MeasureT-loop
+μ-loop s at depth count next₀ left₀ next left = left
+
 -- what the callees ask and tell
 abbrev of-elements : ℕ → elements-end-lts.Claims
-of-elements t = (value-within-below t, value-within.Post, elements-end-below t, elements-end.Post)
+of-elements t = (value-within-below t, value-within.Post)
 
 abbrev of-value : ℕ → value-within-lts.Claims
 of-value t = (
@@ -77,19 +82,22 @@ pub +elements-end+value-within-spec : {M : Type 1} → statement M
 +elements-end+value-within-spec =
     close μ-elements-end μ-value-within
     (λ t.
-    elements-end-lts.spec (of-elements t) (elements-end-at t) elements-end.Post
-    (λ c. rw (elements-none _ _ (c .before .before .args .at) (c .if1 .taken)))
+    elements-end-lts.spec (of-elements t) (elements-end-at t) elements-end.Post Inv-loop μ-loop
+    (λ c. refl)
     (λ c κs. search needs)
     (λ c. search needs)
     (λ c. search needs)
     (λ c.
     let v = c .before .before in
-    rw (elements-more _ _ (v .before .before .before .args .at) (v .before .if1 .left), sym (v .value-within .ensures), c .enum-told .given .1))
+    let l = v .before .before .loop in
+    sym (elements-stop _ _ (l .next) (v .before .loop-test .taken) (sym (v .value-within .ensures) ∙ c .enum-told .given .1)) ∙ l .inv)
     (λ c. search needs)
-    (λ c κs. search needs)
+    (λ c. search needs)
     (λ c.
-    let v = c .before .before .before .before in
-    rw (elements-more _ _ (v .before .before .before .args .at) (v .before .if1 .left), sym (v .value-within .ensures), c .before .before .next .given .1) (c .elements-end .ensures)))
+    let v = c .before .before .before in
+    let l = v .before .before .loop in
+    elements-turn _ _ (l .next) (v .before .loop-test .taken) (sym (v .value-within .ensures) ∙ c .before .end .given .1) ∙ l .inv)
+    (λ c. let l = c .before .loop in sym (elements-none _ _ (l .next) (c .loop-test .left)) ∙ l .inv))
     (λ t.
     value-within-lts.spec (of-value t) (value-within-at t) value-within.Post
     (λ c. let a = c .before .before .args in rw (value-none _ (a .s .now) (a .at) (c .if1 .taken)))
@@ -113,11 +121,7 @@ pub +elements-end+value-within-spec : {M : Type 1} → statement M
     let l = c .before .before .before in
     rw (content t (l .before .before), l .enum-told3 .given .1, sym (c .before .before .length-at .ensures), c .enum-told4 .given .1))
     (λ c. search needs)
-    (λ c κs.
-    let n = c .before .before .before in
-    let s = n .before .before .before .before .before .before .before .before .before in
-    let r = length-read (s .before .args .s .now) _ (s .shared-slice-known .given) (sym (n .length-at .ensures) ∙ c .before .count .given .1) in
-    omega arith)
+    (λ c κs. search needs)
     (λ c. search needs)
     (λ c. rw (content t (c .before .before .before .before), c .before .before .layout .given .1) (c .skip-at .ensures))
     (λ c. rw (content t (c .before .before .before), c .before .enum-told2 .given .1) (c .octets-end .ensures))
