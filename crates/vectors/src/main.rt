@@ -3,8 +3,10 @@
 mod check;
 mod lengths;
 mod report;
+mod requests;
 
 fn main() {
     check::run();
     lengths::run();
+    requests::run();
 }

@@ -1,0 +1,98 @@
+// Plain APDUs of the COSEM services: tags, GET and ACTION requests read, release, exceptions. Readers answer for every slice;
+// names and values stay in the APDU and are read at their places. specs/ says what each means; proofs/ has the laws for callers.
+mod association;
+mod request;
+mod shapes;
+
+pub use association::is_release;
+pub use association::put_exception;
+pub use association::put_release;
+pub use association::tag_in;
+pub use association::tag_of;
+pub use request::name_in;
+pub use request::read_action;
+pub use request::read_get;
+pub use shapes::entries_at;
+pub use shapes::is_integer_at;
+
+// The tags of the APDUs that a client may send.
+pub enum Tag {
+    Aarq,
+    Rlrq,
+    GetRequest,
+    SetRequest,
+    ActionRequest,
+    GloActionRequest,
+    DedGetRequest,
+    DedSetRequest,
+    DedActionRequest,
+    Unknown,
+}
+
+// The two exceptions.
+pub enum Exception {
+    ServiceNotAllowed,
+    ServiceUnknown,
+}
+
+// What a request begins with: invoke byte, class, attribute or method, and the position after them; or that it does not.
+pub enum Head {
+    Begins {
+        invoke: u8,
+        class: u16,
+        id: u8,
+        next: usize,
+    },
+    Broken,
+}
+
+// An optional part that ends an APDU: where it begins, or that there is none; or that neither is said.
+pub enum Part {
+    Absent,
+    Present(usize),
+    Wrong,
+}
+
+// What a request wants: an attribute read, a method invoked. The value of a selector or a parameter begins at `at` and ends
+// with the APDU.
+pub enum Wanted {
+    Read {
+        attribute: u8,
+    },
+    ReadSelected {
+        attribute: u8,
+        selector: u8,
+        at: usize,
+    },
+    Invoke {
+        method: u8,
+    },
+    InvokeWith {
+        method: u8,
+        at: usize,
+    },
+}
+
+// A request but for its name, which stands in the APDU.
+pub struct Asked {
+    pub invoke: u8,
+    pub class: u16,
+    pub wanted: Wanted,
+}
+
+// A plain APDU that was read as a request.
+pub enum Reading {
+    Asks(Asked),
+    Malformed,
+}
+
+// The four numbers of an entry descriptor; or that a value is none.
+pub enum Entries {
+    Described {
+        from: u32,
+        to: u32,
+        from_column: u32,
+        to_column: u32,
+    },
+    Other,
+}
