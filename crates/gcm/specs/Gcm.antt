@@ -1,5 +1,6 @@
 -- AES-128-GCM (SP 800-38D, 7.1 and 7.2, algorithms 4 and 5) with nonces of twelve bytes and tags of twelve bytes. A string may
--- have any length: its length in bits is taken as a number of 64 bits, and the counter wraps, as the standard's own do.
+-- have any length: the counter wraps, as the standard's inc32 does, and a length in bits is taken modulo 2^64, which the standard
+-- keeps strings below.
 use Prim.Native.Nat.{ℕ, _+_, _*_, _%_, _^_}
 use mathlib.Core.Bool.{Bool, true, false, _&&_}
 use mathlib.Core.List.{List, [], _∷_, _++_}

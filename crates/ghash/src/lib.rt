@@ -114,7 +114,7 @@ fn half(b: Block) -> Block
     }
 }
 
-// The product by x: a shift to the right, and R where a bit falls out.
+// The product by x: a shift to the right, and R where a 1 falls out.
 fn times_x(b: Block) -> Block
     ensures { λ r. ⌜ num r ≡ step R (num b) ⌝ }
 {

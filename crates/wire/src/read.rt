@@ -1,4 +1,4 @@
-// Readers: each says what stands at `at`, for every slice and every position, and requires nothing.
+// Readers: each public one says what stands at `at`, for every slice and every position, and requires nothing.
 use crate::End;
 use crate::Field;
 use crate::write::put_all;
