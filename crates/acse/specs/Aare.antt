@@ -39,6 +39,14 @@ outcome size client result diagnostic =
     ++ (0xA2 ∷ 0x03 ∷ 0x02 ∷ 0x01 ∷ result ∷ [])
     ++ (0xA3 ∷ 0x05 ∷ 0xA1 ∷ 0x03 ∷ 0x02 ∷ 0x01 ∷ diagnostic ∷ [])
 
+-- "the meter's title"
+abbrev pub titleField : List ℕ → List ℕ
+titleField title = (0xA4 ∷ 0x0A ∷ 0x04 ∷ 0x08 ∷ []) ++ title
+
+-- "the mechanism name"
+abbrev pub mechanismField : Client → List ℕ
+mechanismField client = (0x89 ∷ 0x07 ∷ []) ++ mechanismName client
+
 -- "only the client's context name, result, diagnostic and user information"
 unfoldable pub rejectedAare : Client → List ℕ
 rejectedAare client =
@@ -49,10 +57,8 @@ rejectedAare client =
 unfoldable pub plainAare : Client → (title agreed : List ℕ) → List ℕ
 plainAare client title agreed =
     outcome 0x3E client 0 0
-    ++ (0xA4 ∷ 0x0A ∷ 0x04 ∷ 0x08 ∷ [])
-    ++ title
-    ++ (0x89 ∷ 0x07 ∷ [])
-    ++ mechanismName client
+    ++ titleField title
+    ++ mechanismField client
     ++ (0xBE ∷ 0x10 ∷ 0x04 ∷ 0x0E ∷ [])
     ++ initiateResponse agreed
 
@@ -60,11 +66,9 @@ plainAare client title agreed =
 unfoldable pub cipheredAareHead : Client → (title challenge : List ℕ) → List ℕ
 cipheredAareHead client title challenge =
     outcome 0x61 client 0 14
-    ++ (0xA4 ∷ 0x0A ∷ 0x04 ∷ 0x08 ∷ [])
-    ++ title
+    ++ titleField title
     ++ (0x88 ∷ 0x02 ∷ 0x07 ∷ 0x80 ∷ [])
-    ++ (0x89 ∷ 0x07 ∷ [])
-    ++ mechanismName client
+    ++ mechanismField client
     ++ (0xAA ∷ 0x0A ∷ 0x80 ∷ 0x08 ∷ [])
     ++ challenge
     ++ (0xBE ∷ 0x23 ∷ 0x04 ∷ 0x21 ∷ [])

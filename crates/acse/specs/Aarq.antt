@@ -21,7 +21,7 @@
 --
 -- Titles have 8 bytes. proofs/Layouts shows that lengths and places are those of the bytes that they speak of.
 use mathlib.Core.Bool.{cond}
-use mathlib.Core.List.{List, [], _∷_}
+use mathlib.Core.List.{List, [], _∷_, _++_}
 use Prim.Native.Nat.{ℕ}
 use Rattle.model.specs.declared.Client.{Client}
 use Rattle.acse.specs.Clients.{ciphers, contextName, mechanismName}
@@ -30,35 +30,40 @@ use Rattle.acse.specs.Initiate.{plainRequest}
 use Rattle.acse.specs.declared.Aarq.{Aarq}
 use Rattle.acse.specs.declared.Aarq.the-variants.{Plain, Ciphered, Departs}
 
--- the AARQ of a client that does not cipher, with its title
-abbrev pub plainAarq : Client → List ℕ → List Piece
-plainAarq client title =
-    fixed (0x60 ∷ 0x32 ∷ [])
+-- tag and length, "context name", "calling title"
+abbrev pub aarqStart : (size : ℕ) → Client → (title : List ℕ) → List Piece
+aarqStart size client title =
+    fixed (0x60 ∷ size ∷ [])
     ∷ fixed (0xA1 ∷ 0x09 ∷ 0x06 ∷ 0x07 ∷ [])
     ∷ fixed (contextName client)
     ∷ fixed (0xA6 ∷ 0x0A ∷ 0x04 ∷ 0x08 ∷ [])
     ∷ fixed title
-    ∷ fixed (0x8B ∷ 0x07 ∷ [])
-    ∷ fixed (mechanismName client)
-    ∷ fixed (0xBE ∷ 0x10 ∷ 0x04 ∷ 0x0E ∷ [])
-    ∷ plainRequest
-
--- the AARQ of a client that ciphers, with its title
-abbrev pub cipheredAarq : Client → List ℕ → List Piece
-cipheredAarq client title =
-    fixed (0x60 ∷ 0x66 ∷ [])
-    ∷ fixed (0xA1 ∷ 0x09 ∷ 0x06 ∷ 0x07 ∷ [])
-    ∷ fixed (contextName client)
-    ∷ fixed (0xA6 ∷ 0x0A ∷ 0x04 ∷ 0x08 ∷ [])
-    ∷ fixed title
-    ∷ fixed (0x8A ∷ 0x02 ∷ 0x07 ∷ 0x80 ∷ [])
-    ∷ fixed (0x8B ∷ 0x07 ∷ [])
-    ∷ fixed (mechanismName client)
-    ∷ fixed (0xAC ∷ 0x0A ∷ 0x80 ∷ 0x08 ∷ [])
-    ∷ free 8
-    ∷ fixed (0xBE ∷ 0x34 ∷ 0x04 ∷ 0x32 ∷ [])
-    ∷ free 50
     ∷ []
+
+-- "mechanism name"
+abbrev pub mechanismPieces : Client → List Piece
+mechanismPieces client = fixed (0x8B ∷ 0x07 ∷ []) ∷ fixed (mechanismName client) ∷ []
+
+-- "user information" of a client that does not cipher: its initiate request
+abbrev pub plainInformation : List Piece
+plainInformation = fixed (0xBE ∷ 0x10 ∷ 0x04 ∷ 0x0E ∷ []) ∷ plainRequest
+
+-- "user information" of a client that ciphers: its envelope
+abbrev pub cipheredInformation : List Piece
+cipheredInformation = fixed (0xBE ∷ 0x34 ∷ 0x04 ∷ 0x32 ∷ []) ∷ free 50 ∷ []
+
+-- the AARQ of a client that does not cipher, with its title
+abbrev pub plainAarq : Client → (title : List ℕ) → List Piece
+plainAarq client title = aarqStart 0x32 client title ++ mechanismPieces client ++ plainInformation
+
+-- the AARQ of a client that ciphers, with its title: besides, "requirements" before the mechanism name and the "challenge" after it
+abbrev pub cipheredAarq : Client → (title : List ℕ) → List Piece
+cipheredAarq client title =
+    aarqStart 0x66 client title
+    ++ (fixed (0x8A ∷ 0x02 ∷ 0x07 ∷ 0x80 ∷ []) ∷ [])
+    ++ mechanismPieces client
+    ++ (fixed (0xAC ∷ 0x0A ∷ 0x80 ∷ 0x08 ∷ []) ∷ free 8 ∷ [])
+    ++ cipheredInformation
 
 -- an AARQ from a client whose title is held: accepted, with the place of the proposed services; or, of a client that ciphers,
 -- right as far as it can be read, with the places of the challenge and the envelope; or it departs

@@ -1,5 +1,16 @@
 // The messages that open an association: the AARQ read, the AARE written, with the initiate request and response inside
 // them. specs/ has their layouts. What is in an envelope belongs to the crate envelope: here stands where it begins.
+mod clients;
+mod read;
+mod write;
+
+pub use clients::agreed;
+pub use read::read_aarq;
+pub use read::read_request;
+pub use write::put_accepted_head;
+pub use write::put_accepted_plain;
+pub use write::put_initiate_response;
+pub use write::put_rejected;
 
 // What a received AARQ comes to.
 pub enum Aarq {
