@@ -6,7 +6,7 @@ use native.Mathlib.Nat.{add-zero}
 use native.Mathlib.Omega.{arith}
 use lib.ListN.{length, take, drop, set, length-append, length-drop, drop-of-length-le, take-append-drop}
 use lib.Seq.{take-at, drop-at, length-take-le, drop-drop, sets, sets-eq, length-sets, paste, take-length, take-add}
-use Rattle.wire.specs.Wrote.{over, Wrote}
+use Rattle.wire.specs.Wrote.{over, Wrote, WroteArray}
 
 -- a stretch that lies within a list has its length
 pub length-stretch : (l : List ℕ) (a k : ℕ) → a + k ≤ length l → length (take k (drop a l)) ≡ k
@@ -145,3 +145,11 @@ pub inside : {l m : List ℕ} {a b : ℕ} (xs ys zs : List ℕ) → Wrote l a m 
 inside {l} {m} {a} {b} xs ys zs w =
     ap (take (length ys)) (sym (drop-drop (length xs) a m) ∙ ap (drop (length xs)) (onward w ∙ simp append-assoc) ∙ drop-at xs (ys ++ (zs ++ drop b l)) (length xs) refl)
     ∙ take-at ys (zs ++ drop b l) (length ys) refl
+
+-- bytes whose number shows, and such writes one after the other
+pub sized : {l m : List ℕ} {a b : ℕ} {bs : List ℕ} → Wrote l a m b bs → WroteArray (length bs) l a m b bs
+sized w = record { wrote = w; sized = refl }
+
+pub then-array : {j k : ℕ} {l m n : List ℕ} {a b d : ℕ} {xs ys : List ℕ} → WroteArray j l a m b xs → WroteArray k m b n d ys → WroteArray (j + k) l a n d (xs ++ ys)
+then-array {j} {k} {l} {m} {n} {a} {b} {d} {xs} {ys} p q =
+    record { wrote = then (p .wrote) (q .wrote); sized = omega (arith, length-append xs ys, p .sized, q .sized) }

@@ -1,0 +1,58 @@
+// What the messages have by client: whether it ciphers, its object identifiers, the services that it is offered. A further
+// client is one line more in each.
+use model::Client;
+ghost use mathlib.Core.Path.{_≡_};
+ghost use Rattle.model.specs.Services.{common, offered};
+ghost use Rattle.acse.specs.Clients.{«ciphers» as cipheringOf, contextName, mechanismName};
+
+// Whether the client ciphers.
+pub fn ciphers(client: Client) -> bool
+    ensures { λ r. ⌜ r ≡ cipheringOf client ⌝ }
+{
+    match client {
+        Client::Verification => false,
+        Client::Han => true,
+    }
+}
+
+// The application context name.
+pub fn context_name(client: Client) -> [u8; 7]
+    ensures { λ r. ⌜ r ≡ contextName client ⌝ }
+{
+    match client {
+        Client::Verification => *b"\x60\x85\x74\x05\x08\x01\x01",
+        Client::Han => *b"\x60\x85\x74\x05\x08\x01\x03",
+    }
+}
+
+// The mechanism name.
+pub fn mechanism_name(client: Client) -> [u8; 7]
+    ensures { λ r. ⌜ r ≡ mechanismName client ⌝ }
+{
+    match client {
+        Client::Verification => *b"\x60\x85\x74\x05\x08\x02\x00",
+        Client::Han => *b"\x60\x85\x74\x05\x08\x02\x05",
+    }
+}
+
+// The services that the client is offered.
+fn offered_services(client: Client) -> [u8; 3]
+    ensures { λ r. ⌜ r ≡ offered client ⌝ }
+{
+    match client {
+        Client::Verification => *b"\x00\x00\x14",
+        Client::Han => *b"\x00\x00\x15",
+    }
+}
+
+// The services that are both proposed and offered.
+pub fn agreed(client: Client, proposed: [u8; 3]) -> [u8; 3]
+    ensures { λ r. ⌜ r ≡ common proposed (offered client) ⌝ }
+{
+    let offer = offered_services(client);
+    [
+        proposed[0] & offer[0],
+        proposed[1] & offer[1],
+        proposed[2] & offer[2],
+    ]
+}
