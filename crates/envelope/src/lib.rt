@@ -1,0 +1,32 @@
+// Ciphered APDUs: envelopes opened and closed, and the proofs of the challenge (document 01, "The envelope and its counters").
+// specs/Layout, specs/Opening and specs/Challenge say what each function means; keys and titles are given by the caller.
+
+// The keys of a client: "GUK", "AK" and the dedicated key of its association.
+pub struct Keys {
+    pub guk: [u8; 16],
+    pub ak: [u8; 16],
+    pub dedicated: [u8; 16],
+}
+
+// What an APDU comes to: no envelope, or not one sealed under these keys; or the counter and the size of the plain text.
+pub enum Opening {
+    Fails,
+    Opens { counter: u32, size: usize },
+}
+
+// The same, with the counter held against its window.
+pub enum Admission {
+    Unopened,
+    OutsideWindow,
+    Admitted { counter: u32, size: usize },
+}
+
+// The counter of an envelope, and where its cipher text and its GCM tag begin; or none, where the bytes are not of that shape.
+pub enum Shape {
+    Misshapen,
+    Shaped {
+        counter: u32,
+        text: usize,
+        tag: usize,
+    },
+}
