@@ -24,19 +24,21 @@ use Rattle.envelope.specs.declared.Admission.the-variants.{Unopened, Out
 unfoldable pub longestApdu : ℕ
 longestApdu = apduRoom longestReceived
 
--- The "shape": an APDU in length, the tag, the length "(shortest form)" equal to what follows, the security control, a counter
--- and a GCM tag. It gives the counter, the place after it, where "the stretch after the counter and before the last 12
--- bytes" begins, and the place where the GCM tag begins.
+-- The "shape" from the security control on: that byte, a counter, and room for a GCM tag. It gives the counter, the place after
+-- it, where "the stretch after the counter and before the last 12 bytes" begins, and the place where those 12 begin.
+unfoldable pub shapeFrom : List ℕ → ℕ → Shape
+shapeFrom s at =
+    thenAt (expected s at (securityControl ∷ [])) Misshapen (λ a.
+    thenField (numberAt 4 s a) Misshapen (λ counter b.
+    cond (leb (b + tagLength) (length s)) (Shaped counter b (length s - tagLength)) Misshapen))
+
+-- The whole "shape": an APDU in size, the tag, and a length, in its shortest form, equal to what follows.
 unfoldable pub shapeOf : ℕ → List ℕ → Shape
 shapeOf tag s =
     cond (ltb longestApdu (length s)) Misshapen
     (thenAt (expected s 0 (tag ∷ [])) Misshapen (λ a.
     thenField (lengthAt s a) Misshapen (λ n b.
-    cond (eqb (b + n) (length s))
-    (thenAt (expected s b (securityControl ∷ [])) Misshapen (λ c.
-    thenField (numberAt 4 s c) Misshapen (λ counter d.
-    cond (leb (d + tagLength) (length s)) (Shaped counter d (length s - tagLength)) Misshapen)))
-    Misshapen)))
+    cond (eqb (b + n) (length s)) (shapeFrom s b) Misshapen)))
 
 -- what an APDU comes to: it does not open, or it opens with a counter and a plain text
 pub data Opened : Type 0 where

@@ -1,5 +1,19 @@
 // Ciphered APDUs: envelopes opened and closed, and the proofs of the challenge (document 01, "The envelope and its counters").
 // specs/Layout, specs/Opening and specs/Challenge say what each function means; keys and titles are given by the caller.
+mod challenge;
+mod close;
+mod material;
+mod open;
+
+pub use challenge::is_right_proof;
+pub use challenge::put_proof;
+pub use close::close_envelope;
+pub use close::head_size;
+pub use open::admit_envelope;
+pub use open::open_envelope;
+
+// The longest APDU that a frame brings: a room for any plain text has this size.
+pub const LONGEST_APDU: usize = 765;
 
 // The keys of a client: "GUK", "AK" and the dedicated key of its association.
 pub struct Keys {
