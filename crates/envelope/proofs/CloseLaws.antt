@@ -1,0 +1,93 @@
+-- Closing: the sizes of an envelope, that head, sealed text and GCM tag one after the other are the envelope, and the law for
+-- callers that lay the text out before they close it.
+use mathlib.Core.Path.{_≡_, refl, sym, ap, ap₂, _∙_}
+use mathlib.Core.List.{List, _∷_, _++_, append-assoc}
+use Prim.Native.Nat.{ℕ, _+_, _-_, _≤_}
+use native.Mathlib.Omega.{arith}
+use lib.ListN.{length, take, drop, length-append, take-append-drop}
+use lib.Seq.{take-append-le, length-take-le}
+use Rattle.wire.specs.Numbers.{highFirst, lengthField}
+use Rattle.wire.specs.Wrote.{over, Wrote}
+use Rattle.wire.proofs.NumberLaws.{length-high}
+use Rattle.wire.proofs.WroteLaws.{length-stretch, length-over, then, stands, lent, there as stands-there, past, untouched, again}
+use Rattle.gcm.specs.Gcm.{tagLength, ciphered, tag, sealed}
+use Rattle.gcm.specs.Calls.{Sealed}
+use Rattle.gcm.proofs.GcmLaws.{length-ciphered, length-sealed}
+use Rattle.model.specs.Limits.{envelopeLength}
+use Rattle.envelope.specs.Layout.{securityControl, keyFor, nonce, associatedData, countedLength, head, headSize, sealedEnvelope}
+use Rattle.envelope.specs.declared.Keys.{Keys}
+
+-- Sizes: they depend on the size of the text alone.
+
+pub length-head : (tag counter n : ℕ) → length (head tag counter n) ≡ headSize n
+unfolding head
+length-head tag counter n =
+    omega (arith, length-append (lengthField (countedLength n)) (securityControl ∷ highFirst 4 counter), length-high 4 counter)
+
+pub envelope-size : (n : ℕ) → envelopeLength n ≡ headSize n + (n + tagLength)
+unfolding envelopeLength
+envelope-size n = omega arith
+
+pub length-envelope : (k : Keys) (title : List ℕ) (tag counter : ℕ) (text : List ℕ) → length (sealedEnvelope k title tag counter text) ≡ envelopeLength (length text)
+unfolding sealedEnvelope
+length-envelope k title tag counter text =
+    length-append (head tag counter (length text)) (sealed (keyFor k tag) (nonce title counter) (associatedData k) text)
+    ∙ ap₂ _+_ (length-head tag counter (length text)) (length-sealed (keyFor k tag) (nonce title counter) (associatedData k) text)
+    ∙ sym (envelope-size (length text))
+
+-- The code's steps: the head before the text, the text sealed where it stands, the GCM tag behind it.
+module _ (k : Keys) (title : List ℕ) (t counter n at : ℕ) (l : List ℕ) (h : at + envelopeLength n ≤ length l) where
+  module _ {m c g key iv aad : List ℕ} {a e : ℕ} (w : Wrote l at m a (head t counter n)) (he : e ≡ a + n) (s : Sealed key iv aad (take (e - a) (drop a m)) c g) where
+    room : e + tagLength ≤ length m
+    room = omega (arith, w .next, w .kept, length-head t counter n, envelope-size n)
+
+    size : length (take (e - a) (drop a m)) ≡ n
+    size = let r = room in let j : e - a ≡ n = omega arith in rw j (length-stretch m a n (omega arith))
+
+    full : length c ≡ length (take (e - a) (drop a m))
+    full = ap length (s .cipher) ∙ length-ciphered key iv (take (e - a) (drop a m))
+
+    -- the buffer when the sealed part has come back
+    there : take a m ++ (c ++ drop (e - a) (drop a m)) ≡ over m a c
+    there = let r = room in lent m a e c (omega arith) (omega arith) full
+
+    pub tag-room : e + tagLength ≤ length (take a m ++ (c ++ drop (e - a) (drop a m)))
+    tag-room = let r = room in rw there (omega (arith, length-over m a c (omega (arith, full, size))))
+
+    pub closes : {p : List ℕ} {r : ℕ} → key ≡ keyFor k t → iv ≡ nonce title counter → aad ≡ associatedData k
+        → Wrote (take a m ++ (c ++ drop (e - a) (drop a m))) e p r g
+        → Wrote l at p r (sealedEnvelope k title t counter (take n (drop (at + headSize n) l)))
+    unfolding sealedEnvelope sealed
+    closes hk hi ha v =
+        let q = room in
+        let z : a ≡ at + headSize n = omega (arith, w .next, length-head t counter n) in
+        let j : e - a ≡ n = omega arith in
+        let x : take n (drop (at + headSize n) l) ≡ take (e - a) (drop a m) = rw (j, untouched w, z) in
+        let stood : Wrote m a m (a + n) (take (e - a) (drop a m)) = rw j (stands m a n (omega arith)) in
+        let laid : Wrote m a (take a m ++ (c ++ drop (e - a) (drop a m))) e c = rw (there, he) (again stood c full) in
+        rw (x, size, ← hk, ← hi, ← ha, ← s .cipher, ← (s .tagged ∙ ap (tag key iv aad) (sym (s .cipher)))) (then w (then laid v))
+
+-- what stands before a place stays where bytes are written behind it
+before : {l m : List ℕ} {a b : ℕ} {xs : List ℕ} → Wrote l a m b xs → (at : ℕ) → at ≤ a → take at m ≡ take at l
+unfolding over
+before {l} {m} {a} {b} {xs} w at h =
+    let n : length (take a l) ≡ a = length-take-le a l (omega (arith, w .room)) in
+    ap (take at) (w .is ∙ append-assoc (take a l) xs (drop (a + length xs) l))
+    ∙ take-append-le at (take a l) (xs ++ drop (a + length xs) l) (omega arith)
+    ∙ sym (take-append-le at (take a l) (drop a l) (omega arith))
+    ∙ ap (take at) (take-append-drop a l)
+
+-- a write over all that an earlier one wrote
+covers : {l m p : List ℕ} {a b at r : ℕ} {xs ys : List ℕ} → Wrote l a m b xs → Wrote m at p r ys → at ≤ a → b ≤ r → Wrote l at p r ys
+unfolding over
+covers {l} {m} {p} {a} {b} {at} {r} {xs} {ys} w v h k =
+    let behind : drop (at + length ys) m ≡ drop (at + length ys) l = past w (at + length ys) (omega (arith, v .next)) in
+    record { is = v .is ∙ rw (before w at h, behind); next = v .next; kept = v .kept ∙ w .kept; room = omega (arith, v .room, w .kept) }
+
+-- for callers: a text that was written behind the room for its head, and the envelope closed around it, is the envelope written
+pub encloses : (k : Keys) (title : List ℕ) (tag counter : ℕ) {l m p : List ℕ} {at b r : ℕ} (text : List ℕ) → Wrote l (at + headSize (length text)) m b text
+    → Wrote m at p r (sealedEnvelope k title tag counter (take (length text) (drop (at + headSize (length text)) m)))
+    → Wrote l at p r (sealedEnvelope k title tag counter text)
+encloses k title tag counter {l} {m} {p} {at} {b} {r} text w v =
+    let u : Wrote m at p r (sealedEnvelope k title tag counter text) = rw (stands-there w) at v in
+    covers w u (omega arith) (omega (arith, w .next, u .next, length-envelope k title tag counter text, envelope-size (length text)))

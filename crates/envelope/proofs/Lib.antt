@@ -1,0 +1,4 @@
+pub mod ShapeLaws
+pub mod OpenLaws
+pub mod AdmitLaws
+pub mod CloseLaws
