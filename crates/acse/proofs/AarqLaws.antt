@@ -1,20 +1,19 @@
 -- What an AARQ, and an opened initiate request, tell where they are accepted; and that those that are written as specs/ lays
 -- them out are accepted, whatever their free bytes.
-use mathlib.Core.Path.{_≡_, refl, sym, ap, _∙_}
+use mathlib.Core.Path.{_≡_, refl, sym}
 use mathlib.Core.Bool.{Bool, true, false, cond}
 use mathlib.Core.List.{List, [], _∷_}
-use Prim.Native.Nat.{ℕ, _+_, _≤_}
+use Prim.Native.Nat.{ℕ, _≤_}
 use native.Mathlib.Omega.{arith}
 use lib.ListN.{length, take, drop}
 use Rattle.wire.specs.Numbers.{numberHigh}
 use Rattle.wire.proofs.ReadingLaws.{chosen}
 use Rattle.model.specs.declared.Client.{Client}
 use Rattle.model.specs.Limits.{longestSent, leastSize}
-use Rattle.acse.specs.Clients.{ciphers, contextName, mechanismName}
+use Rattle.acse.specs.Clients.{ciphers}
 use Rattle.acse.specs.Pieces.{isLaid}
 use Rattle.acse.specs.Initiate.{keyedRequest, readRequest}
 use Rattle.acse.specs.Aarq.{plainAarq, cipheredAarq, readAarq}
-use Rattle.acse.specs.declared.Aarq.{Aarq}
 use Rattle.acse.specs.declared.Aarq.the-variants.{Plain, Ciphered, Departs}
 use Rattle.acse.specs.declared.InitiateRequest.the-variants.{Accepted, Departs as Refused}
 use Rattle.acse.proofs.LaidLaws.{written, laid-told, laid-written}

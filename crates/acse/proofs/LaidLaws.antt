@@ -15,7 +15,7 @@ use Rattle.wire.specs.declared.End.{End}
 use Rattle.wire.specs.declared.End.the-variants.{At, Bad}
 use Rattle.wire.specs.declared.Field.{Field}
 use Rattle.wire.specs.declared.Field.the-variants.{Found, Missing}
-use Rattle.wire.proofs.ReadingLaws.{by-order, chosen, missing-never, expect-read, skip-read, number-read, expect-here, skip-here, number-here, part-of}
+use Rattle.wire.proofs.ReadingLaws.{expect-read, skip-read, number-read, expect-here, skip-here, number-here, part-of}
 use Rattle.wire.proofs.SameLaws.{same-self}
 use Rattle.acse.specs.Pieces.{Piece, fixed, free, number, passedPiece, passed, isLaid}
 

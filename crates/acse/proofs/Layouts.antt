@@ -1,18 +1,17 @@
 -- The numbers written in specs/ are those of the bytes that they speak of: each length is the length of what follows it, and
 -- each place is the size of the pieces before it.
-use mathlib.Core.Path.{_≡_, refl, sym, ap, _∙_}
+use mathlib.Core.Path.{_≡_, refl}
 use mathlib.Core.List.{List, [], _∷_, _++_}
 use Prim.Native.Nat.{ℕ, _+_}
 use native.Mathlib.Omega.{arith}
-use lib.ListN.{length, take, drop, length-append}
+use lib.ListN.{length, take, length-append}
 use Rattle.wire.specs.Numbers.{lengthField}
 use Rattle.model.specs.declared.Client.{Client}
 use Rattle.model.specs.declared.Client.the-variants.{Verification, Han}
 use Rattle.model.specs.Limits.{envelopeLength, longestReceived, toldSize}
 use Rattle.acse.specs.Clients.{contextName, mechanismName}
-use Rattle.acse.specs.Pieces.{Piece, fixed, free}
-use Rattle.acse.specs.Initiate.{requestEnd, plainRequest, keyedRequest, initiateResponse}
-use Rattle.acse.specs.Aarq.{plainAarq, cipheredAarq, plainInformation, cipheredInformation}
+use Rattle.acse.specs.Initiate.{plainRequest, keyedRequest, initiateResponse}
+use Rattle.acse.specs.Aarq.{plainAarq, cipheredAarq}
 use Rattle.acse.specs.Aare.{outcome, rejectedAare, plainAare, cipheredAareHead}
 use Rattle.acse.proofs.LaidLaws.{layoutSize}
 

@@ -1,13 +1,13 @@
 -- Laws of agreed services: three bytes are agreed byte by byte, and lie within those offered.
 use mathlib.Core.Path.{_≡_, refl, sym, ap, ap₂, _∙_}
-use mathlib.Core.Bool.{true, _&&_}
+use mathlib.Core.Bool.{true}
 use mathlib.Core.List.{List, [], _∷_}
-use Prim.Native.Nat.{ℕ, zero, suc, _+_, _*_, _/_, _%_, _≤_}
+use Prim.Native.Nat.{ℕ, suc, _+_, _*_, _/_, _%_, _≤_}
 use native.Mathlib.Nat.{min-eq-left, div-add-mod'}
 use native.Mathlib.Omega.{arith}
 use lib.Arith.{bin-ind}
 use lib.Bits.{bitAnd, and-step, and-shr, and-mod, and-le-r}
-use lib.ListN.{length, drop, getD, drop-of-length-le}
+use lib.ListN.{length, getD, drop-of-length-le}
 use lib.Seq.{drop-cons}
 use borrow.Author.Tests.{eq-eqb}
 use Rattle.model.specs.declared.Client.{Client}
@@ -32,13 +32,12 @@ pub length-offered : (client : Client) → length (offered client) ≡ 3
 length-offered Verification = refl
 length-offered Han = refl
 
--- agreed services are as many bytes as both
-pub length-common : (xs os : List ℕ) → length xs ≡ length os → length (common xs os) ≡ length os
+-- agreed services are as many bytes as those offered
+pub length-common : (xs os : List ℕ) → length (common xs os) ≡ length os
 unfolding common
-length-common [] [] h = refl
-length-common [] (o ∷ os) h = h
-length-common (x ∷ xs) [] h = refl
-length-common (x ∷ xs) (o ∷ os) h = ap suc (length-common xs os (omega arith))
+length-common xs [] = refl
+length-common [] (o ∷ os) = ap suc (length-common [] os)
+length-common (x ∷ xs) (o ∷ os) = ap suc (length-common xs os)
 
 -- a mask changes nothing the second time: by induction over the binary digits of the first number
 and-twice : (a b : ℕ) → bitAnd (bitAnd a b) b ≡ bitAnd a b
@@ -50,9 +49,8 @@ and-twice =
     and-step (bitAnd n b) b ∙ ap₂ (λ (p q : ℕ). p * 2 + q) upper (min-eq-left least) ∙ div-add-mod' (bitAnd n b) 2)
 
 -- what is agreed lies within what is offered
-pub common-within : (xs os : List ℕ) → length xs ≡ length os → within (common xs os) os ≡ true
+pub common-within : (xs os : List ℕ) → within (common xs os) os ≡ true
 unfolding common within
-common-within [] [] h = refl
-common-within [] (o ∷ os) h = absurd (omega arith)
-common-within (x ∷ xs) [] h = absurd (omega arith)
-common-within (x ∷ xs) (o ∷ os) h = rw (eq-eqb _ _ (and-twice x o)) (common-within xs os (omega arith))
+common-within xs [] = refl
+common-within [] (o ∷ os) = common-within [] os
+common-within (x ∷ xs) (o ∷ os) = rw (eq-eqb _ _ (and-twice x o)) (common-within xs os)

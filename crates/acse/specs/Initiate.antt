@@ -15,7 +15,7 @@
 --   5F 1F 04 00, 3 bytes     the agreed services
 --   2 bytes                  the size that the meter tells
 --   00 07                    the name by which logical names are referred to
-use mathlib.Core.Bool.{Bool, cond}
+use mathlib.Core.Bool.{cond}
 use mathlib.Core.List.{List, [], _∷_, _++_}
 use Prim.Native.Nat.{ℕ}
 use Rattle.wire.specs.Numbers.{highFirst}

@@ -1,14 +1,14 @@
 -- Laws of requests for callers: the name of a request that was read stands in its APDU, and so does the value of its
 -- selector or parameter, which is one whole value and ends with the APDU.
-use mathlib.Core.Path.{_≡_, refl, sym, ap, _∙_}
+use mathlib.Core.Path.{_≡_, refl, ap, _∙_}
 use mathlib.Core.Bool.{Bool, true, false, cond, false≢true}
 use mathlib.Core.List.{List, [], _∷_}
-use Prim.Native.Nat.{ℕ, _+_, _≤_, _<_}
+use Prim.Native.Nat.{ℕ, _+_, _≤_}
 use native.Mathlib.Omega.{arith}
 use lib.Dec.{eqb}
 use lib.ListN.{length, take, drop}
 use borrow.Author.Tests.{eqb-true}
-use Rattle.wire.specs.Reading.{expected, numberAt, skipped, thenAt, thenField}
+use Rattle.wire.specs.Reading.{expected, numberAt, skipped}
 use Rattle.wire.specs.declared.End.the-variants.{At}
 use Rattle.wire.proofs.ReadingLaws.{chosen, expect-read, fill-here, number-read, skip-read, then-at, then-field}
 use Rattle.axdr.specs.Values.{valueEnd}

@@ -5,7 +5,7 @@
 --             C0 01, invoke byte, class (2), name (6), attribute, 01, selector, value
 --   ACTION    C3 01, invoke byte, class (2), name (6), method, 00
 --             C3 01, invoke byte, class (2), name (6), method, 01, value
-use mathlib.Core.Bool.{Bool, true, false, cond}
+use mathlib.Core.Bool.{Bool, false, cond}
 use mathlib.Core.List.{List, [], _∷_}
 use Prim.Native.Nat.{ℕ}
 use lib.Dec.{eqb}

@@ -1,12 +1,12 @@
 -- What an opening tells its caller, and how it is admitted by the window of its counter.
 use mathlib.Core.Path.{_≡_, refl, sym, ap, _∙_}
 use mathlib.Core.Bool.{true, false}
-use mathlib.Core.List.{List, [], _++_}
-use Prim.Native.Nat.{ℕ, _≤_}
+use mathlib.Core.List.{List, []}
+use Prim.Native.Nat.{ℕ}
 use native.Mathlib.Omega.{arith}
-use lib.ListN.{length, take, drop}
+use lib.ListN.{length}
 use Rattle.counters.specs.Window.{inWindow}
-use Rattle.envelope.specs.Opening.{Opened, fails, opens, OpenedInto, AdmittedInto, openingOf, roomAfter, admissionOf}
+use Rattle.envelope.specs.Opening.{Opened, fails, opens, OpenedInto, AdmittedInto, openingOf, admissionOf}
 use Rattle.envelope.specs.declared.Opening.{Opening}
 use Rattle.envelope.specs.declared.Opening.the-variants.{Fails, Opens}
 use Rattle.envelope.specs.declared.Admission.the-variants.{Unopened, OutsideWindow, Admitted}

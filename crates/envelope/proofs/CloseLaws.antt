@@ -1,6 +1,6 @@
 -- Closing: the sizes of an envelope, that head, sealed text and GCM tag one after the other are the envelope, and the law for
 -- callers that lay the text out before they close it.
-use mathlib.Core.Path.{_≡_, refl, sym, ap, ap₂, _∙_}
+use mathlib.Core.Path.{_≡_, sym, ap, ap₂, _∙_}
 use mathlib.Core.List.{List, _∷_, _++_, append-assoc}
 use Prim.Native.Nat.{ℕ, _+_, _-_, _≤_}
 use native.Mathlib.Omega.{arith}
@@ -10,7 +10,7 @@ use Rattle.wire.specs.Numbers.{highFirst, lengthField}
 use Rattle.wire.specs.Wrote.{over, Wrote}
 use Rattle.wire.proofs.NumberLaws.{length-high}
 use Rattle.wire.proofs.WroteLaws.{length-stretch, length-over, then, stands, lent, there as stands-there, past, untouched, again}
-use Rattle.gcm.specs.Gcm.{tagLength, ciphered, tag, sealed}
+use Rattle.gcm.specs.Gcm.{tagLength, tag, sealed}
 use Rattle.gcm.specs.Calls.{Sealed}
 use Rattle.gcm.proofs.GcmLaws.{length-ciphered, length-sealed}
 use Rattle.model.specs.Limits.{envelopeLength}

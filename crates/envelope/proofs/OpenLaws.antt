@@ -1,5 +1,5 @@
 -- What opening comes to, by the shape and by GCM's answer.
-use mathlib.Core.Path.{_≡_, refl, sym, ap, ap₂, _∙_}
+use mathlib.Core.Path.{_≡_, sym, ap, _∙_}
 use mathlib.Core.Bool.{Bool, true, false}
 use mathlib.Core.List.{List, _++_}
 use Prim.Native.Nat.{ℕ, _+_, _-_, _≤_}
@@ -7,7 +7,7 @@ use native.Mathlib.Omega.{arith}
 use lib.ListN.{length, drop}
 use Rattle.wire.specs.Reading.{part}
 use Rattle.wire.proofs.WroteLaws.{length-stretch}
-use Rattle.gcm.specs.Gcm.{tagLength, ciphered, authentic}
+use Rattle.gcm.specs.Gcm.{ciphered, authentic}
 use Rattle.gcm.specs.Calls.{Opened as GcmOpened, opens as gcm-opens}
 use Rattle.gcm.proofs.GcmLaws.{length-ciphered, opens-room, opened-right, opened-wrong}
 use Rattle.envelope.specs.Layout.{keyFor, nonce, associatedData}
@@ -15,7 +15,7 @@ use Rattle.envelope.specs.Opening.{longestApdu, shapeOf, opened, openedB
 use Rattle.envelope.specs.declared.Keys.{Keys}
 use Rattle.envelope.specs.declared.Shape.the-variants.{Misshapen, Shaped}
 use Rattle.envelope.specs.declared.Opening.the-variants.{Fails, Opens}
-use Rattle.envelope.proofs.ShapeLaws.{Places, places-of, to-end}
+use Rattle.envelope.proofs.ShapeLaws.{places-of, to-end}
 
 module _ (k : Keys) (title : List ℕ) (tag : ℕ) (s : List ℕ) where
   pub no-shape : (l : List ℕ) → shapeOf tag s ≡ Misshapen → OpenedInto (opened k title tag s) l l Fails

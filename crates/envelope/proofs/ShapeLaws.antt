@@ -1,10 +1,10 @@
 -- The shape of an envelope: what a shape that was read tells of its places.
-use mathlib.Core.Path.{_≡_, refl, sym, ap, _∙_}
-use mathlib.Core.Bool.{Bool, true, false, cond}
+use mathlib.Core.Path.{_≡_, refl}
+use mathlib.Core.Bool.{true, false}
 use mathlib.Core.List.{List, [], _∷_}
 use Prim.Native.Nat.{ℕ, _+_, _-_, _≤_, _<_}
 use native.Mathlib.Omega.{arith}
-use lib.Dec.{eqb, leb, ltb}
+use lib.Dec.{eqb, leb}
 use lib.ListN.{length, drop, length-drop}
 use lib.Seq.{take-all}
 use borrow.Author.Tests.{leb-true, lt-ltb, le-ltb, lt-leb, le-leb}
@@ -13,13 +13,11 @@ use Rattle.wire.specs.declared.End.{End}
 use Rattle.wire.specs.declared.End.the-variants.{At, Bad}
 use Rattle.wire.specs.declared.Field.{Field}
 use Rattle.wire.specs.declared.Field.the-variants.{Found, Missing}
-use Rattle.wire.proofs.ReadingLaws.{by-order, chosen, expect-read, number-read}
-use Rattle.wire.proofs.LengthLaws.{length-within}
+use Rattle.wire.proofs.ReadingLaws.{by-order, chosen}
 use Rattle.gcm.specs.Gcm.{tagLength}
 use Rattle.model.specs.Limits.{longestReceived, apduRoom}
 use Rattle.envelope.specs.Layout.{securityControl}
 use Rattle.envelope.specs.Opening.{longestApdu, shapeFrom, shapeOf}
-use Rattle.envelope.specs.declared.Shape.{Shape}
 use Rattle.envelope.specs.declared.Shape.the-variants.{Misshapen, Shaped}
 
 pub longest-apdu : longestApdu ≡ 765

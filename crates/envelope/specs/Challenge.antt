@@ -4,7 +4,7 @@
 use mathlib.Core.Bool.{Bool, false, _&&_}
 use mathlib.Core.List.{List, [], _∷_, _++_}
 use Prim.Native.Nat.{ℕ, _+_}
-use lib.ListN.{length, drop}
+use lib.ListN.{drop}
 use Rattle.wire.specs.Numbers.{highFirst}
 use Rattle.wire.specs.Reading.{thenAt, thenField, expected, numberAt}
 use Rattle.gcm.specs.Gcm.{gmac, authentic}

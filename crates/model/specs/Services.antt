@@ -12,10 +12,10 @@ abbrev pub offered : Client → List ℕ
 offered Verification = 0x00 ∷ 0x00 ∷ 0x14 ∷ []
 offered Han = 0x00 ∷ 0x00 ∷ 0x15 ∷ []
 
--- "agreed: proposed and offered", bit by bit
-unfoldable pub common : List ℕ → List ℕ → List ℕ
-common [] os = []
-common (a ∷ xs) [] = []
+-- "agreed: proposed and offered", bit by bit; a byte that is not proposed counts as 0
+unfoldable pub common : (proposed offered : List ℕ) → List ℕ
+common xs [] = []
+common [] (o ∷ os) = 0 ∷ common [] os
 common (a ∷ xs) (o ∷ os) = bitAnd a o ∷ common xs os
 
 -- each bit that is set in the first is set in the second

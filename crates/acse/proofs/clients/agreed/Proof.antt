@@ -1,7 +1,5 @@
 -- `acse::clients::agreed` meets its contract: three bytes are three.
-use mathlib.Core.Path.{_≡_, refl, sym, ap, _∙_}
 use borrow.Author.Needs.{needs}
-use Rattle.model.specs.Services.{common, offered}
 use Rattle.acse.proofs.ServiceLaws.{common-three}
 use Rattle.acse.proofs.clients.agreed.Statement.{statement}
 use Rattle.acse.proofs.clients.agreed.Tie as tie

@@ -1,6 +1,4 @@
 -- `envelope::challenge::put_proof` meets its contract: three writes, one after the other.
-use mathlib.Core.Path.{sym}
-use mathlib.Core.List.{append-assoc}
 use borrow.Author.Needs.{needs}
 use Rattle.wire.proofs.WroteLaws.{then}
 use Rattle.envelope.specs.Challenge.{proofValue}

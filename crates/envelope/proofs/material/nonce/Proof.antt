@@ -2,7 +2,6 @@
 use native.Mathlib.Omega.{arith}
 use borrow.Author.Needs.{needs}
 use Rattle.wire.proofs.WroteLaws.{then, full}
-use Rattle.wire.proofs.NumberLaws.{length-high}
 use lib.ListN.{length-append}
 use Rattle.envelope.specs.Layout.{nonce}
 use Rattle.envelope.proofs.material.nonce.Statement.{statement}

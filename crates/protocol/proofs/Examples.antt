@@ -1,0 +1,25 @@
+-- All fourteen marked examples hold, by computation.
+use mathlib.Core.Path.{_≡_, refl}
+use mathlib.Core.Bool.{true}
+use Rattle.gf2.specs.Shift.{step as shift, steps}
+use Rattle.wire.specs.Reading.{sameBytes}
+use Rattle.fcs.specs.Check.{checkOf, checkFrom, checkByte, polynomial}
+use Rattle.model.specs.Names.{every}
+use Rattle.model.specs.Limits.{longestSent, longestReceived, replyRoom, greatestLength, maxRows, maxRegisters, maxColumns}
+use Rattle.model.specs.Clocks.{februaryDays, daysIn, realDate, realTime, fixedBytes, validClock}
+use Rattle.model.specs.Periods.{periods}
+use Rattle.model.specs.State.{newMeter}
+use Rattle.model.specs.Soundness.{acceptedRegisters, acceptedColumns, sound}
+use Rattle.model.specs.Objects.{entriesWrong, entries}
+use Rattle.model.specs.Calls.{lentRefusal, act, step}
+use Rattle.hdlc.specs.Layout.{formatOf, hcsOf, informationOf, fcsOf, headBytes, checked, flagged, frameOf}
+use Rattle.hdlc.specs.Addresses.{senderOf}
+use Rattle.hdlc.specs.Tests.{firstFailing}
+use Rattle.hdlc.specs.Reading.{refused, accepted, readFrame}
+use Rattle.counters.specs.Window.{inWindow}
+use Rattle.protocol.specs.Decide.{linkUp, linkDown, ruled, decide}
+use Rattle.protocol.specs.Examples.{examples}
+
+pub examples-hold : every (λ i e. e .holds) 0 examples ≡ true
+unfolding examples shift steps sameBytes checkOf checkFrom checkByte polynomial longestSent longestReceived replyRoom greatestLength maxRows maxRegisters maxColumns februaryDays daysIn realDate realTime fixedBytes validClock periods newMeter acceptedRegisters acceptedColumns sound entriesWrong entries lentRefusal act step formatOf hcsOf informationOf fcsOf headBytes checked flagged frameOf senderOf firstFailing refused accepted readFrame inWindow linkUp linkDown ruled decide
+examples-hold = refl

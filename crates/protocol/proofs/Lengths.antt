@@ -1,0 +1,39 @@
+-- How long a reply is depends on how long the body's answer is, and on nothing else of it.
+use mathlib.Core.Path.{_≡_, refl, sym, _∙_, ap}
+use mathlib.Core.Bool.{Bool, true, false, cond}
+use mathlib.Core.List.{List, [], _++_}
+use Prim.Native.Nat.{ℕ, _+_}
+use native.Mathlib.Omega.{arith}
+use lib.Dec.{eqb}
+use lib.ListN.{length, length-append}
+use Rattle.model.specs.State.{Line}
+use Rattle.model.specs.Limits.{envelopeLength}
+use Rattle.model.specs.Calls.{Wrap, KeepsLengths}
+use Rattle.hdlc.specs.Layout.{ui}
+use Rattle.hdlc.specs.Tests.{replyLlc}
+use Rattle.hdlc.proofs.LayoutLaws.{length-full}
+use Rattle.envelope.specs.Layout.{sealedEnvelope}
+use Rattle.envelope.proofs.CloseLaws.{length-envelope}
+use Rattle.protocol.specs.Clients.{keysOf}
+use Rattle.protocol.specs.Decide.{answerTag, around, seal, p2}
+
+-- the bytes around an answer of n bytes: none for V, an envelope for H
+pub aroundLength : Wrap → ℕ → ℕ
+aroundLength w n = cond (eqb (w .tag) 0xC0) n (envelopeLength n)
+
+length-around : (l : Line) (w : Wrap) (text : List ℕ) → length (around l w text) ≡ aroundLength w (length text)
+unfolding around aroundLength
+length-around l w text = go (eqb (w .tag) 0xC0)
+  where
+    go : (b : Bool) → length (cond b text (sealedEnvelope (keysOf [] (w .ak) l) (l .title) (answerTag (w .tag)) (l .han .counters .sent) text)) ≡ cond b (length text) (envelopeLength (length text))
+    go true = refl
+    go false = length-envelope (keysOf [] (w .ak) l) (l .title) (answerTag (w .tag)) (l .han .counters .sent) text
+
+pub length-seal : (l : Line) (w : Wrap) (text : List ℕ) → length (seal l w text) ≡ aroundLength w (length text) + 14
+unfolding seal
+length-seal l w text =
+    let e : length (replyLlc ++ around l w text) ≡ 3 + length (around l w text) = length-append replyLlc (around l w text) in
+    length-full (w .destination) (w .source) ui (replyLlc ++ around l w text) (omega arith) ∙ omega (arith, length-around l w text)
+
+pub keeps-lengths : KeepsLengths p2
+keeps-lengths l w xs ys e = length-seal l w xs ∙ ap (λ (n : ℕ). aroundLength w n + 14) e ∙ sym (length-seal l w ys)

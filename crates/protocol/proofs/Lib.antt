@@ -1,0 +1,5 @@
+pub mod Lengths
+pub mod Numbers
+pub mod Lines
+pub mod Examples
+pub mod Claim

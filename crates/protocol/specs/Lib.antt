@@ -1,0 +1,5 @@
+pub mod Clients
+pub mod Rulings
+pub mod Decide
+pub mod Examples
+pub mod Claim

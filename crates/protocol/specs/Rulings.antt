@@ -1,0 +1,62 @@
+-- What a frame on a sound meter comes to: the test of document 01 that it fails first, or none; what goes out; and the line
+-- afterwards. Every refusal's number follows from the test.
+use mathlib.Core.List.{List, []}
+use Prim.Native.Nat.{ℕ}
+use Rattle.model.specs.State.{Line}
+use Rattle.model.specs.Objects.{Request}
+use Rattle.model.specs.Calls.{Wrap, Decision, answer, serve}
+use Rattle.hdlc.specs.declared.Head.{Head}
+use Rattle.hdlc.specs.declared.FrameTest.{FrameTest}
+use Rattle.hdlc.specs.Tests.{numberOf}
+use Rattle.hdlc.specs.Replies.{uaFrame, dmFrame, frmrFrame, apduFrame}
+
+-- the tests, frames' own first; `none` is no failing test
+pub data Test : Type 0 where
+  none : Test
+  frame : FrameTest → Test
+  linkUpWithInformation p5HoldsV linkDownWhileDown dataWhileDown : Test
+  unknownTag tagNotPermitted bitNotAgreed : Test
+  aarqNotAccepted : Test
+  envelopeUnopened outsideWindow : Test
+  malformedApdu notTheChallenge wrongProof : Test
+
+-- the number of the refusal in document 01's table
+abbrev pub refusalOf : Test → ℕ
+refusalOf none = 0
+refusalOf (frame t) = numberOf t
+refusalOf linkUpWithInformation = 10
+refusalOf p5HoldsV = 10
+refusalOf linkDownWhileDown = 10
+refusalOf dataWhileDown = 10
+refusalOf unknownTag = 12
+refusalOf tagNotPermitted = 12
+refusalOf bitNotAgreed = 12
+refusalOf aarqNotAccepted = 11
+refusalOf envelopeUnopened = 6
+refusalOf outsideWindow = 7
+refusalOf malformedApdu = 12
+refusalOf notTheChallenge = 12
+refusalOf wrongProof = 13
+
+-- what goes out
+pub data Reply : Type 0 where
+  nothing : Reply
+  ua dm : Head → Reply
+  reject : Head → FrameTest → Reply
+  apdu : Head → List ℕ → Reply
+
+abbrev pub bytesOf : Reply → List ℕ
+bytesOf nothing = []
+bytesOf (ua h) = uaFrame h
+bytesOf (dm h) = dmFrame h
+bytesOf (reject h t) = frmrFrame h t
+bytesOf (apdu h a) = apduFrame h a
+
+-- a frame that the line answers, or one that asks the body, with the line after it
+pub data Ruling : Type 0 where
+  says : Test → Reply → Line → Ruling
+  asks : Request → Wrap → Line → Ruling
+
+abbrev pub decision : Ruling → Decision
+decision (says t r l) = answer (record { refusal = refusalOf t; sent = bytesOf r; line = l })
+decision (asks q w l) = serve q w l

@@ -1,0 +1,2 @@
+// The protocol of the link: `decide` and `seal` of document 01 for frames, associations, envelopes and counters, as
+// definitions in specs/, with demand 3 proved at them in proofs/. There are no functions: the code that meets them stands above.
