@@ -1,13 +1,13 @@
 -- A frame that was written is read back: the tests of refusal 4 pass, and the fields are those that it was written from. A
 -- data frame passes every test of the side that it is for, the meter's reply at a client and a client's request at the meter.
 use mathlib.Core.Path.{_≡_, refl, sym, ap, ap₂, _∙_}
-use mathlib.Core.Bool.{Bool, true, false, not, _&&_, _||_}
+use mathlib.Core.Bool.{true, false, not}
 use mathlib.Core.List.{List, [], _∷_, _++_, append-assoc}
-use Prim.Native.Nat.{ℕ, _+_, _-_, _*_, _/_, _%_, _^_, _<_, _≤_}
+use Prim.Native.Nat.{ℕ, _+_, _-_, _/_, _%_, _^_, _<_, _≤_}
 use native.Mathlib.Nat.{mod-eq-of-lt}
 use native.Mathlib.Omega.{arith}
 use lib.Dec.{eqb, ltb}
-use lib.ListN.{length, take, drop, getD, length-append}
+use lib.ListN.{length, take, drop, length-append}
 use lib.Seq.{take-at, drop-at, getD-at}
 use borrow.Author.Tests.{lt-ltb, le-ltb, eq-eqb, ne-eqb}
 use Rattle.model.specs.Limits.{greatestLength, longestReceived, longestSent}
@@ -16,15 +16,14 @@ use Rattle.model.specs.declared.Client.the-variants.{Verification, Han}
 use Rattle.fcs.specs.Check.{checkOf}
 use Rattle.fcs.proofs.CheckLaws.{check-fits}
 use Rattle.wire.specs.Numbers.{lowFirst, highFirst, numberLow, numberHigh}
-use Rattle.wire.specs.Reading.{part, sameBytes}
+use Rattle.wire.specs.Reading.{part}
 use Rattle.wire.proofs.NumberLaws.{low-number, high-number}
 use Rattle.wire.proofs.SameLaws.{same-self}
 use Rattle.hdlc.specs.Layout.{flag, ui, byte, formatOf, lengthOf, headOf, hcsOf, hcsCovers, informationOf, fcsOf, fcsCovers, headBytes, checked, flagged, frameOf}
 use Rattle.hdlc.specs.Addresses.{meterAddress, addressOf, senderOf, isKnown}
-use Rattle.hdlc.specs.Tests.{Side, fails, frameTests, firstFailing, AllPass, none, more, meterSide, clientSide, requestLlc, replyLlc}
-use Rattle.hdlc.specs.declared.FrameTest.{FrameTest}
+use Rattle.hdlc.specs.Tests.{Side, fails, frameTests, firstFailing, AllPass, none, more, meterSide, clientSide, requestLlc}
 use Rattle.hdlc.specs.declared.FrameTest.the-variants.{ShortFrame, FlagMissing, FrameType, LengthMismatch, LengthEightOrNine, WrongFcs, WrongHcs, EvenAddress, FrmrReceived, OverLength, SegmentBit, PfClear, WrongDestination, WrongSource, UnknownControl, LinkDownWithInformation, ShortInformation, WrongLlc}
-use Rattle.hdlc.specs.Reading.{accepted, answered, readFrame}
+use Rattle.hdlc.specs.Reading.{answered, readFrame}
 use Rattle.hdlc.specs.Replies.{dataFrame, apduFrame}
 use Rattle.hdlc.specs.declared.Frame.the-variants.{Apdu}
 use Rattle.hdlc.specs.declared.Head.{Head}

@@ -4,8 +4,6 @@ use hdlc::FrameTest;
 use hdlc::Head;
 use hdlc::Place;
 use model::Client;
-ghost use Prim.Native.Nat.{_≤_};
-ghost use lib.ListN.{length};
 
 // What a frame is read as.
 pub fn answer(frame: &[u8]) {

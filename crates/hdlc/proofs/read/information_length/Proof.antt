@@ -1,5 +1,4 @@
 -- `hdlc::read::information_length` meets its contract.
-use mathlib.Core.Path.{_≡_, sym, _∙_}
 use native.Mathlib.Omega.{arith}
 use borrow.Author.Needs.{needs}
 use Rattle.hdlc.proofs.LayoutLaws.{information-length}

@@ -1,5 +1,4 @@
 -- `hdlc::write::put_plain` meets its contract: head, FCS and flag are the frame.
-use native.Mathlib.Omega.{arith}
 use borrow.Author.Needs.{needs}
 use Rattle.hdlc.proofs.ReplyLaws.{with-check, with-flag}
 use Rattle.hdlc.specs.Layout.{headBytes, frameOf}
