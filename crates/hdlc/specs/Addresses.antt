@@ -9,6 +9,7 @@ use Rattle.model.specs.declared.Client.the-variants.{Verification, Han}
 use Rattle.hdlc.specs.declared.Sender.{Sender}
 use Rattle.hdlc.specs.declared.Sender.the-variants.{Known, Unknown}
 
+-- the address of a number
 abbrev pub onWire : ℕ → ℕ
 onWire n = 2 * n + 1
 
@@ -21,9 +22,11 @@ abbrev pub numberOfClient : Client → ℕ
 numberOfClient Verification = 0x10
 numberOfClient Han = 0x13
 
+-- the address of a client: V 21, H 27
 abbrev pub addressOf : Client → ℕ
 addressOf c = onWire (numberOfClient c)
 
+-- every client
 abbrev pub clients : List Client
 clients = Verification ∷ Han ∷ []
 
@@ -36,6 +39,7 @@ senderAmong (c ∷ cs) a = cond (eqb a (addressOf c)) (Known c) (senderAmong cs 
 unfoldable pub senderOf : ℕ → Sender
 senderOf a = senderAmong clients a
 
+-- the address is a client's
 abbrev pub isKnown : Sender → Bool
 isKnown (Known c) = true
 isKnown Unknown = false

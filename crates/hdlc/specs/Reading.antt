@@ -36,5 +36,6 @@ answered f s (Failed t) = refused f t
 answered f (Known c) Passed = accepted c f
 answered f Unknown Passed = refused f WrongSource
 
+-- what a received frame is, for every byte string
 unfoldable pub readFrame : List ℕ → Frame
 readFrame f = answered f (senderOf (byte f 4)) (firstFailing meterSide frameTests f)

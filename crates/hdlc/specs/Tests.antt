@@ -44,7 +44,7 @@ abbrev pub clientSide : Client → Side
 clientSide c =
     record { own = addressOf c; takes = λ a. eqb a meterAddress; llc = replyLlc; longest = longestSent }
 
--- the frame fails the test
+-- the side r would refuse the frame f by the test
 abbrev pub fails : Side → FrameTest → List ℕ → Bool
 -- refusal 4
 fails r ShortFrame f = ltb (length f) 9
@@ -69,7 +69,7 @@ fails r LinkDownWithInformation f = eqb (byte f 5) disc && ltb 0 (length (inform
 fails r ShortInformation f = eqb (byte f 5) ui && ltb (length (informationOf f)) 4
 fails r WrongLlc f = eqb (byte f 5) ui && not (sameBytes (take 3 (informationOf f)) (r .llc))
 
--- in the order of document 01
+-- the tests "in this order"
 abbrev pub frameTests : List FrameTest
 frameTests =
     ShortFrame
@@ -153,8 +153,8 @@ placeOf LinkDownWithInformation f = Byte 8
 placeOf ShortInformation f = Byte 8
 placeOf WrongLlc f = Byte 8
 
--- Stretches of the list that one function each goes through. proofs/TestLaws shows that, with ShortFrame before them and
--- WrongSource before the last, they are the list.
+-- Stretches of the list that one function each goes through. By proofs/ReadingLaws they are the list, with ShortFrame before
+-- them and WrongSource before the last.
 
 abbrev pub layoutTests : List FrameTest
 layoutTests = FlagMissing ∷ FrameType ∷ LengthMismatch ∷ LengthEightOrNine ∷ []

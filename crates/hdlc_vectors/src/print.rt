@@ -4,8 +4,6 @@ use hdlc::FrameTest;
 use hdlc::Head;
 use hdlc::Place;
 use model::Client;
-ghost use Prim.Native.Nat.{_≤_};
-ghost use lib.ListN.{length};
 
 // What a frame is read as.
 pub fn answer(frame: &[u8]) {
@@ -16,29 +14,50 @@ pub fn answer(frame: &[u8]) {
             client,
             head,
             information,
-        } => {
-            io::write_all(1, b"link up");
-            if information {
-                io::write_all(1, b" with information");
-            }
-            sender(client, head);
-        }
-        Frame::LinkDown { client, head } => {
-            io::write_all(1, b"link down");
-            sender(client, head);
-        }
+        } => link_up(client, head, information),
+        Frame::LinkDown { client, head } => link_down(client, head),
         Frame::Apdu {
             client,
             head,
             start,
             end,
-        } => {
-            io::write_all(1, b"APDU from ");
-            io::print_decimal(1, start as u64);
-            io::write_all(1, b" to ");
-            io::print_decimal(1, end as u64);
-            sender(client, head);
-        }
+        } => apdu(client, head, start, end),
+    }
+}
+
+fn link_up(client: Client, head: Head, information: bool) {
+    if information {
+        io::write_all(1, b"link up with information");
+        return sender(client, head);
+    }
+    io::write_all(1, b"link up");
+    sender(client, head)
+}
+
+fn link_down(client: Client, head: Head) {
+    io::write_all(1, b"link down");
+    sender(client, head)
+}
+
+fn apdu(client: Client, head: Head, start: usize, end: usize) {
+    io::write_all(1, b"APDU from ");
+    io::print_decimal(1, start as u64);
+    io::write_all(1, b" to ");
+    io::print_decimal(1, end as u64);
+    sender(client, head)
+}
+
+fn sender(client: Client, head: Head) {
+    client_name(client);
+    spaced(head.destination);
+    spaced(head.source);
+    spaced(head.control);
+}
+
+fn client_name(client: Client) -> bool {
+    match client {
+        Client::Verification => io::write_all(1, b", V,"),
+        Client::Han => io::write_all(1, b", H,"),
     }
 }
 
@@ -48,14 +67,17 @@ fn refusal(test: FrameTest, frame: &[u8]) {
     io::write_all(1, b" ");
     test_name(test);
     io::write_all(1, b" ");
-    match hdlc::place_of(test, frame) {
+    place(hdlc::place_of(test, frame));
+}
+
+fn place(place: Place) -> bool {
+    match place {
         Place::Byte(at) => io::print_decimal(1, at as u64),
         Place::Nowhere => io::write_all(1, b"-"),
     }
-    ;
 }
 
-fn test_name(test: FrameTest) {
+fn test_name(test: FrameTest) -> bool {
     match test {
         FrameTest::ShortFrame => io::write_all(1, b"short-frame"),
         FrameTest::FlagMissing => io::write_all(1, b"flag-missing"),
@@ -66,6 +88,13 @@ fn test_name(test: FrameTest) {
         FrameTest::WrongHcs => io::write_all(1, b"wrong-HCS"),
         FrameTest::EvenAddress => io::write_all(1, b"even-address"),
         FrameTest::FrmrReceived => io::write_all(1, b"FRMR-received"),
+        _ => later_name(test),
+    }
+}
+
+// The tests of refusals 8 and 9.
+fn later_name(test: FrameTest) -> bool {
+    match test {
         FrameTest::OverLength => io::write_all(1, b"over-length"),
         FrameTest::SegmentBit => io::write_all(1, b"segment-bit"),
         FrameTest::PfClear => io::write_all(1, b"PF-clear"),
@@ -75,19 +104,8 @@ fn test_name(test: FrameTest) {
         FrameTest::LinkDownWithInformation => io::write_all(1, b"link-down-with-information"),
         FrameTest::ShortInformation => io::write_all(1, b"short-information"),
         FrameTest::WrongLlc => io::write_all(1, b"wrong-LLC"),
+        _ => false,
     }
-    ;
-}
-
-fn sender(client: Client, head: Head) {
-    match client {
-        Client::Verification => io::write_all(1, b", V,"),
-        Client::Han => io::write_all(1, b", H,"),
-    }
-    ;
-    spaced(head.destination);
-    spaced(head.source);
-    spaced(head.control);
 }
 
 fn spaced(b: u8) {
