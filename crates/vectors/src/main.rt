@@ -1,5 +1,6 @@
 // Vectors: each module has those of one subject, with the expected bytes in its text, and compares them with what the
 // code gives. One line for each: `ok NAME`, or `differs NAME` and then the bytes got and the bytes expected.
+mod associations;
 mod check;
 mod lengths;
 mod report;
@@ -7,4 +8,5 @@ mod report;
 fn main() {
     check::run();
     lengths::run();
+    associations::run();
 }
