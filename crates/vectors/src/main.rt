@@ -1,5 +1,6 @@
 // Vectors: each module has those of one subject, with the expected bytes in its text, and compares them with what the
 // code gives. One line for each: `ok NAME`, or `differs NAME` and then the bytes got and the bytes expected.
+mod associations;
 mod check;
 mod lengths;
 mod report;
@@ -9,4 +10,5 @@ fn main() {
     check::run();
     lengths::run();
     requests::run();
+    associations::run();
 }
