@@ -15,13 +15,13 @@ use Rattle.wire.specs.declared.Field.{Field}
 use Rattle.wire.specs.declared.Field.the-variants.{Found, Missing}
 use Rattle.wire.proofs.ReadingLaws.{by-order, chosen}
 use Rattle.gcm.specs.Gcm.{tagLength}
-use Rattle.model.specs.Limits.{longestReceived, apduRoom}
+use Rattle.model.specs.Limits.{longestReceived, greatestApdu}
 use Rattle.envelope.specs.Layout.{securityControl}
 use Rattle.envelope.specs.Opening.{longestApdu, shapeFrom, shapeOf}
 use Rattle.envelope.specs.declared.Shape.the-variants.{Misshapen, Shaped}
 
 pub longest-apdu : longestApdu ≡ 765
-unfolding longestApdu apduRoom longestReceived
+unfolding longestApdu greatestApdu longestReceived
 longest-apdu = refl
 
 -- the part up to the end, as `&s[at..]` has it

@@ -9,7 +9,7 @@ use lib.Dec.{eqb, leb, ltb}
 use lib.ListN.{length, drop}
 use Rattle.wire.specs.Reading.{thenAt, thenField, part, expected, numberAt, lengthAt}
 use Rattle.gcm.specs.Gcm.{tagLength, ciphered, authentic}
-use Rattle.model.specs.Limits.{longestReceived, apduRoom}
+use Rattle.model.specs.Limits.{longestReceived, greatestApdu}
 use Rattle.counters.specs.Window.{inWindow}
 use Rattle.envelope.specs.Layout.{securityControl, keyFor, nonce, associatedData}
 use Rattle.envelope.specs.declared.Keys.{Keys}
@@ -22,7 +22,7 @@ use Rattle.envelope.specs.declared.Admission.the-variants.{Unopened, Out
 
 -- the longest APDU that a frame brings
 unfoldable pub longestApdu : ℕ
-longestApdu = apduRoom longestReceived
+longestApdu = greatestApdu longestReceived
 
 -- The "shape" from the security control on: that byte, a counter, and room for a GCM tag. It gives the counter, the place after
 -- it, where "the stretch after the counter and before the last 12 bytes" begins, and the place where those 12 begin.

@@ -50,6 +50,10 @@ leastSize sent = sent
 unfoldable pub greatestLength : ℕ → ℕ
 greatestLength received = received + 9
 
+-- the longest APDU that an information can carry: what LLC leaves of it
+unfoldable pub greatestApdu : ℕ → ℕ
+greatestApdu received = received - 3
+
 -- the size that an AARE tells
 unfoldable pub toldSize : ℕ → ℕ
 toldSize received = received
