@@ -1,5 +1,6 @@
 -- What the keeper of the archive asked for (demands 1 and 2, and document 01, "What the contracts owe the archive"): rows
--- are added and kept, sound meters stay sound, and each call has its own numbers. Proved in proofs/Archive.
+-- are added and kept, sound meters stay sound, and each call has its own numbers. Proved in proofs/KeptRows,
+-- RecordNumber, StaySound and AllowedNumbers.
 use mathlib.Core.Path.{_≡_}
 use mathlib.Core.Bool.{Bool, true, false, _&&_}
 use mathlib.Core.List.{List, [], _∷_, map}
