@@ -1,10 +1,12 @@
 // Vectors: each module has those of one subject, with the expected bytes in its text, and compares them with what the
 // code gives. One line for each: `ok NAME`, or `differs NAME` and then the bytes got and the bytes expected.
 mod check;
+mod envelopes;
 mod lengths;
 mod report;
 
 fn main() {
     check::run();
     lengths::run();
+    envelopes::run();
 }
