@@ -13,7 +13,9 @@ use Rattle.wire.proofs.WroteLaws.{length-stretch, length-over, then, stands, le
 use Rattle.gcm.specs.Gcm.{tagLength, tag, sealed}
 use Rattle.gcm.specs.Calls.{Sealed}
 use Rattle.gcm.proofs.GcmLaws.{length-ciphered, length-sealed}
-use Rattle.model.specs.Limits.{envelopeLength}
+use Rattle.model.specs.Limits.{longestSent, apduRoom, envelopeLength, textRoom}
+use Rattle.model.proofs.LimitFacts.{apdu-room, text-room}
+use Rattle.wire.proofs.LengthLaws.{field-size}
 use Rattle.envelope.specs.Layout.{securityControl, keyFor, nonce, associatedData, countedLength, head, headSize, sealedEnvelope}
 use Rattle.envelope.specs.declared.Keys.{Keys}
 
@@ -34,6 +36,10 @@ length-envelope k title tag counter text =
     length-append (head tag counter (length text)) (sealed (keyFor k tag) (nonce title counter) (associatedData k) text)
     ∙ ap₂ _+_ (length-head tag counter (length text)) (length-sealed (keyFor k tag) (nonce title counter) (associatedData k) text)
     ∙ sym (envelope-size (length text))
+
+-- for callers: the envelope around a text that is not too long fits an APDU
+pub envelope-fits : (n : ℕ) → n ≤ textRoom longestSent → envelopeLength n ≤ apduRoom longestSent
+envelope-fits n h = omega (arith, text-room, apdu-room, envelope-size n, field-size (countedLength n))
 
 -- The code's steps: the head before the text, the text sealed where it stands, the GCM tag behind it.
 module _ (k : Keys) (title : List ℕ) (t counter n at : ℕ) (l : List ℕ) (h : at + envelopeLength n ≤ length l) where

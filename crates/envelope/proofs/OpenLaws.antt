@@ -4,7 +4,7 @@ use mathlib.Core.Bool.{Bool, true, false}
 use mathlib.Core.List.{List, _++_}
 use Prim.Native.Nat.{ℕ, _+_, _-_, _≤_}
 use native.Mathlib.Omega.{arith}
-use lib.ListN.{length, drop}
+use lib.ListN.{length, drop, length-append, length-drop}
 use Rattle.wire.specs.Reading.{part}
 use Rattle.wire.proofs.WroteLaws.{length-stretch}
 use Rattle.gcm.specs.Gcm.{ciphered, authentic}
@@ -20,7 +20,7 @@ use Rattle.envelope.proofs.ShapeLaws.{places-of, to-end}
 module _ (k : Keys) (title : List ℕ) (tag : ℕ) (s : List ℕ) where
   pub no-shape : (l : List ℕ) → shapeOf tag s ≡ Misshapen → OpenedInto (opened k title tag s) l l Fails
   unfolding opened openedBy
-  no-shape l q = record { answer = rw q; room = rw q }
+  no-shape l q = record { answer = rw q; room = rw q; kept = refl }
 
   module _ {counter a e : ℕ} (q : shapeOf tag s ≡ Shaped counter a e) (l m : List ℕ) (h : longestApdu ≤ length l) where
     abbrev key : List ℕ
@@ -50,14 +50,17 @@ module _ (k : Keys) (title : List ℕ) (tag : ℕ) (s : List ℕ) where
     unfolding opened openedBy
     right-tag g =
         let t : authentic key iv aad text (drop e s) ≡ true = sym (g .answer ∙ decides) in
-        let n : length (ciphered key iv text) ≡ e - a = length-ciphered key iv text ∙ length-text in
-        record {
-          answer = rw (q, t, n);
-          room = rw (q, t) (g .room ∙ opened-right key iv aad text (drop e s) l (sym (g .answer)) ∙ ap (λ (j : ℕ). ciphered key iv text ++ drop j l) (sym (length-ciphered key iv text)));
-        }
+        let x = length-ciphered key iv text in
+        let y = length-text in
+        let z : length (ciphered key iv text) ≡ e - a = omega arith in
+        let p = places-of s tag q in
+        let f : m ≡ ciphered key iv text ++ drop (length (ciphered key iv text)) l =
+        g .room ∙ opened-right key iv aad text (drop e s) l (sym (g .answer)) ∙ ap (λ (j : ℕ). ciphered key iv text ++ drop j l) (sym x) in
+        record { answer = rw (q, t, z); room = rw (q, t) f; kept = ap length f ∙ simp (length-append, length-drop) (omega arith) }
 
     pub wrong-tag : GcmOpened key iv aad text (drop e s) l m false → OpenedInto (opened k title tag s) l m Fails
     unfolding opened openedBy
     wrong-tag g =
         let t : authentic key iv aad text (drop e s) ≡ false = sym (g .answer ∙ decides) in
-        record { answer = rw (q, t); room = rw (q, t) (g .room ∙ opened-wrong key iv aad text (drop e s) l (sym (g .answer))) }
+        let f : m ≡ l = g .room ∙ opened-wrong key iv aad text (drop e s) l (sym (g .answer)) in
+        record { answer = rw (q, t); room = rw (q, t) f; kept = ap length f }

@@ -73,6 +73,7 @@ roomAfter (opens counter text) l = text ++ drop (length text) l
 pub record OpenedInto (o : Opened) (l m : List ℕ) (r : Opening) : Type 0 where
   pub answer : r ≡ openingOf o
   pub room : m ≡ roomAfter o l
+  pub kept : length m ≡ length l
 
 -- "Tests: shape and tag first (6), then the counter (7)", by the last accepted counter
 abbrev pub admissionOf : ℕ → Opened → Admission
@@ -83,6 +84,7 @@ admissionOf accepted (opens counter text) = cond (inWindow accepted counter) (Ad
 pub record AdmittedInto (accepted : ℕ) (o : Opened) (l m : List ℕ) (r : Admission) : Type 0 where
   pub answer : r ≡ admissionOf accepted o
   pub room : m ≡ roomAfter o l
+  pub kept : length m ≡ length l
 
 -- the refusals of document 01's table, or 0: "envelope outside an AARQ does not open", "counter outside its window"
 abbrev pub refusalOf : Admission → ℕ

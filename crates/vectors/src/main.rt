@@ -2,6 +2,7 @@
 // code gives. One line for each: `ok NAME`, or `differs NAME` and then the bytes got and the bytes expected.
 mod associations;
 mod check;
+mod envelopes;
 mod lengths;
 mod report;
 mod requests;
@@ -11,4 +12,5 @@ fn main() {
     lengths::run();
     requests::run();
     associations::run();
+    envelopes::run();
 }
