@@ -143,3 +143,19 @@ pub laid-written : (ps : List Piece) (fs : List (List ℕ)) → Allowed ps fs �
 laid-written ps fs a =
     let r = written-stand ps fs [] a in
     laid-back ps (written ps fs) 0 (r .0) (r .1)
+
+-- what is written of some pieces, and then of others
+written-append : (ps qs : List Piece) (fs gs : List (List ℕ)) → Allowed ps fs → written (ps ++ qs) (fs ++ gs) ≡ written ps fs ++ written qs gs
+written-append [] qs [] gs a = refl
+written-append [] qs (f ∷ fs) gs a = absurd a
+written-append (fixed bs ∷ ps) qs fs gs a = rw (written-append ps qs fs gs a, append-assoc)
+written-append (free n ∷ ps) qs [] gs a = absurd a
+written-append (free n ∷ ps) qs (f ∷ fs) gs a = rw (written-append ps qs fs gs (a .1), append-assoc)
+written-append (number w k ∷ ps) qs [] gs a = absurd a
+written-append (number w k ∷ ps) qs (f ∷ fs) gs a = rw (written-append ps qs fs gs (a .1), append-assoc)
+
+-- a string given for free bytes stands at the place after the pieces before them
+pub written-there : (ps qs : List Piece) (fs : List (List ℕ)) (g : List ℕ) (gs : List (List ℕ)) (n : ℕ) → Allowed ps fs → take (length g) (drop (layoutSize ps) (written (ps ++ (free n ∷ qs)) (fs ++ (g ∷ gs)))) ≡ g
+written-there ps qs fs g gs n a =
+    let size : length (written ps fs) ≡ layoutSize ps = omega (arith, written-stand ps fs [] a .0) in
+    rw (written-append ps (free n ∷ qs) fs (g ∷ gs) a, drop-at (written ps fs) (g ++ written qs gs) (layoutSize ps) size) (take-at g (written qs gs) (length g) refl)
