@@ -10,14 +10,14 @@ use Rattle.wire.specs.Numbers.{numberHigh}
 use Rattle.wire.proofs.ReadingLaws.{chosen}
 use Rattle.model.specs.declared.Client.{Client}
 use Rattle.model.specs.Limits.{longestSent, leastSize}
-use Rattle.acse.specs.Clients.{ciphers}
-use Rattle.acse.specs.Pieces.{isLaid}
-use Rattle.acse.specs.Initiate.{keyedRequest, readRequest}
+use Rattle.acse.specs.Clients.{ciphers, contextName, mechanismName}
+use Rattle.acse.specs.Pieces.{number, isLaid}
+use Rattle.acse.specs.Initiate.{requestEnd, keyedRequest, readRequest}
 use Rattle.acse.specs.Aarq.{plainAarq, cipheredAarq, readAarq}
 use Rattle.acse.specs.declared.Aarq.the-variants.{Plain, Ciphered, Departs}
 use Rattle.acse.specs.declared.InitiateRequest.the-variants.{Accepted, Departs as Refused}
-use Rattle.acse.proofs.LaidLaws.{written, laid-told, laid-written}
-use Rattle.acse.proofs.Layouts.{length-context, length-mechanism, plain-size, ciphered-size}
+use Rattle.acse.proofs.LaidLaws.{written, laid-told, laid-written, written-there}
+use Rattle.acse.proofs.Layouts.{length-context, length-mechanism, plain-size, plain-services, ciphered-size, ciphered-challenge, ciphered-envelope}
 
 -- An accepted AARQ of a client that does not cipher: `services` is the place of the proposed services.
 pub record ReadPlain (s : List ℕ) (client : Client) (title : List ℕ) (services : ℕ) : Type 0 where
@@ -123,3 +123,25 @@ pub keyed-accepted : (key services size : List ℕ) → length key ≡ 16 → le
 unfolding readRequest
 keyed-accepted key services size g h k l =
     rw (laid-written keyedRequest (key ∷ services ∷ size ∷ []) (g, (h, ((k, l), tt))))
+
+-- Their free bytes stand at the places that are told.
+
+pub services-there : (client : Client) (title services size : List ℕ) → length title ≡ 8 → length services ≡ 3 → take 3 (drop 47 (written (plainAarq client title) (services ∷ size ∷ []))) ≡ services
+services-there client title services size h k =
+    rw (k, plain-services client title h) at (written-there (take 12 (plainAarq client title)) (number 2 (leastSize longestSent) ∷ []) [] services (size ∷ []) 3 tt)
+
+pub challenge-there : (client : Client) (title challenge envelope : List ℕ) → length title ≡ 8 → length challenge ≡ 8 → take 8 (drop 42 (written (cipheredAarq client title) (challenge ∷ envelope ∷ []))) ≡ challenge
+challenge-there client title challenge envelope h k =
+    rw (k, ciphered-challenge client title h) at (written-there (take 9 (cipheredAarq client title)) (drop 10 (cipheredAarq client title)) [] challenge (envelope ∷ []) 8 tt)
+
+pub envelope-there : (client : Client) (title challenge envelope : List ℕ) → length title ≡ 8 → length challenge ≡ 8 → length envelope ≡ 50 → take 50 (drop 54 (written (cipheredAarq client title) (challenge ∷ envelope ∷ []))) ≡ envelope
+envelope-there client title challenge envelope h k l =
+    rw (l, ciphered-envelope client title h) at (written-there (take 11 (cipheredAarq client title)) [] (challenge ∷ []) envelope [] 50 (k, tt))
+
+pub key-there : (key services size : List ℕ) → length key ≡ 16 → take 16 (drop 3 (written keyedRequest (key ∷ services ∷ size ∷ []))) ≡ key
+key-there key services size h =
+    rw h at (written-there (take 2 keyedRequest) requestEnd [] key (services ∷ size ∷ []) 16 tt)
+
+pub keyed-services-there : (key services size : List ℕ) → length key ≡ 16 → length services ≡ 3 → take 3 (drop 26 (written keyedRequest (key ∷ services ∷ size ∷ []))) ≡ services
+keyed-services-there key services size h k =
+    rw k at (written-there (take 5 keyedRequest) (number 2 (leastSize longestSent) ∷ []) (key ∷ []) services (size ∷ []) 3 (h, tt))
