@@ -1,1 +1,4 @@
 pub mod MeterLaws
+pub mod OwnedLaws
+pub mod UnsoundExamples
+pub mod SameSecond

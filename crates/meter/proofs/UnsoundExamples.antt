@@ -1,0 +1,46 @@
+-- The table of unsound meters, computed: each fails what stands beside it and nothing else, and each gets 3 of every owner's
+-- call, as every unsound meter does.
+use mathlib.Core.Path.{_≡_, refl, sym, _∙_, ap}
+use mathlib.Core.Bool.{false}
+use mathlib.Core.List.{List, _∷_, map, List·Memᴰ, List·Memᴰ·head, List·Memᴰ·tail, head-eq-of-cons-eq, tail-eq-of-cons-eq}
+use native.Mathlib.Omega.{arith}
+use Rattle.wire.specs.Reading.{sameBytes}
+use Rattle.model.specs.Limits.{maxRows, maxRegisters, maxColumns}
+use Rattle.model.specs.Clocks.{validClock, realDate, realTime, fixedBytes, daysIn, februaryDays}
+use Rattle.model.specs.Periods.{periods}
+use Rattle.model.specs.Services.{within}
+use Rattle.model.specs.Soundness.{acceptedRegisters, acceptedColumns, sound}
+use Rattle.model.specs.Calls.{Call, early, step}
+use Rattle.store.specs.Lists.{registersOf, columnsOf, entriesOf}
+use Rattle.line.specs.View.{lineOf}
+use Rattle.body.specs.View.{bodyOf}
+use Rattle.meter.specs.declared.Meter.{Meter}
+use Rattle.meter.specs.declared.Changed.{Changed}
+use Rattle.meter.specs.View.{view}
+use Rattle.meter.specs.Promise.{Owned, changed}
+use Rattle.meter.specs.Unsound.{Verdict, soundMeter, unsoundMeters, sixteenRows, VerdictsRight, UnsoundAnswers3, TableAnswers3}
+use Rattle.meter.proofs.OwnedLaws.{owned-refusal}
+
+pub verdicts-right : VerdictsRight
+unfolding soundMeter unsoundMeters sixteenRows view lineOf bodyOf registersOf columnsOf entriesOf sound acceptedRegisters acceptedColumns validClock realDate realTime fixedBytes daysIn februaryDays periods within sameBytes maxRows maxRegisters maxColumns
+verdicts-right = record { sound = refl; unsound = refl; sixteen = refl }
+
+-- Refusal 3.
+
+refused-3 : (c : Call) (m : Meter) (r : Changed) → early c ≡ 0 → sound (view m) ≡ false → Owned c m r → r .refusal ≡ 3
+unfolding step
+refused-3 c m r own s o = rw (own, s) at (owned-refusal c m r o)
+
+pub unsound-answers-3 : UnsoundAnswers3
+unsound-answers-3 m s c r own o =
+    let three = refused-3 c m r own s o in
+    let same = o .kept (λ z. omega arith) in
+    λ i. record { refusal = three i; meter = same i }
+
+-- what holds of the elements of a list whose images agree
+each : {A B : Type 0} (f g : A → B) (xs : List A) → map f xs ≡ map g xs → (x : A) → List·Memᴰ x xs → f x ≡ g x
+each f g (y ∷ ys) e x (List·Memᴰ·head h) = ap f h ∙ head-eq-of-cons-eq e ∙ ap g (sym h)
+each f g (y ∷ ys) e x (List·Memᴰ·tail m) = each f g ys (tail-eq-of-cons-eq e) x m
+
+pub table-answers-3 : TableAnswers3
+table-answers-3 e m = unsound-answers-3 (e .meter) (ap (λ (w : Verdict). w .isSound) (each _ _ unsoundMeters (verdicts-right .unsound) e m))
