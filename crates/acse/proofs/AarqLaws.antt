@@ -10,7 +10,7 @@ use Rattle.wire.specs.Numbers.{numberHigh}
 use Rattle.wire.proofs.ReadingLaws.{chosen}
 use Rattle.model.specs.declared.Client.{Client}
 use Rattle.model.specs.Limits.{longestSent, leastSize}
-use Rattle.acse.specs.Clients.{ciphers, contextName, mechanismName}
+use Rattle.acse.specs.Clients.{ciphers}
 use Rattle.acse.specs.Pieces.{number, isLaid}
 use Rattle.acse.specs.Initiate.{requestEnd, keyedRequest, readRequest}
 use Rattle.acse.specs.Aarq.{plainAarq, cipheredAarq, readAarq}

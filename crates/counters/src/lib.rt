@@ -11,7 +11,7 @@ pub struct Taken {
     pub number: u32,
 }
 
-// The number to use for an envelope or a proof that is sent, and the pair afterwards.
+// The number to use for an envelope or a proof that is sent, and the pair afterwards: `advance` for a pair held by value.
 pub fn take(mut pair: Counters) -> Taken
     ensures { λ r. ⌜ r ≡ taken pair ⌝ }
 {

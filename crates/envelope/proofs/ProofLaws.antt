@@ -1,14 +1,13 @@
 -- The challenge proof that one side makes is right for the other exactly where its counter is allowed; and its size.
-use mathlib.Core.Path.{_≡_, refl, sym, ap, _∙_}
-use mathlib.Core.Bool.{true, _&&_, and-true}
+use mathlib.Core.Path.{_≡_, refl}
+use mathlib.Core.Bool.{and-true}
 use mathlib.Core.List.{List, [], _++_}
 use Prim.Native.Nat.{ℕ, _+_, _^_, _<_}
 use native.Mathlib.Omega.{arith}
-use lib.ListN.{length, drop, length-append}
-use lib.Seq.{drop-at}
+use lib.ListN.{length, length-append}
 use Rattle.wire.specs.Numbers.{highFirst}
 use Rattle.wire.proofs.ReadingLaws.{number-back}
-use Rattle.gcm.specs.Gcm.{tagLength, gmac, tag}
+use Rattle.gcm.specs.Gcm.{gmac}
 use Rattle.gcm.proofs.GcmLaws.{length-gmac, authentic-tag}
 use Rattle.counters.specs.Window.{innerAllowed}
 use Rattle.envelope.specs.Layout.{nonce}

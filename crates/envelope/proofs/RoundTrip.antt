@@ -1,18 +1,14 @@
 -- What is closed opens under the same keys, title and tag, and gives back its counter and text; and nothing else opens.
 use mathlib.Core.Path.{_≡_, refl, sym, ap, ap₂, _∙_}
-use mathlib.Core.Bool.{Bool, true, false}
 use mathlib.Core.List.{List, [], _∷_, _++_, append-assoc}
 use Prim.Native.Nat.{ℕ, _+_, _-_, _^_, _≤_, _<_}
 use native.Mathlib.Omega.{arith}
-use lib.ListN.{length, take, drop, length-append}
-use lib.Seq.{take-at, drop-at, drop-drop}
-use lib.Dec.{eqb, leb, ltb}
+use lib.ListN.{length, drop, length-append}
+use lib.Seq.{drop-at, drop-drop}
 use borrow.Author.Tests.{le-ltb, eq-eqb, le-leb}
 use Rattle.wire.specs.Numbers.{highFirst, lengthField}
-use Rattle.wire.specs.Reading.{part, expected, numberAt, lengthAt}
-use Rattle.wire.specs.declared.End.the-variants.{At}
-use Rattle.wire.specs.declared.Field.the-variants.{Found}
-use Rattle.wire.proofs.NumberLaws.{Bytes, length-high}
+use Rattle.wire.specs.Reading.{part}
+use Rattle.wire.proofs.NumberLaws.{Bytes}
 use Rattle.wire.proofs.ReadingLaws.{number-back, chosen}
 use Rattle.wire.proofs.WroteLaws.{length-stretch}
 use Rattle.wire.proofs.LengthLaws.{field-size, length-back}
@@ -20,12 +16,12 @@ use Rattle.gcm.specs.Gcm.{tagLength, ciphered, tag, sealed, authentic}
 use Rattle.gcm.proofs.GcmLaws.{length-ciphered, ciphered-back, length-sealed, sealed-cipher, sealed-tag, authentic-tag, tag-authentic}
 use Rattle.model.specs.Limits.{envelopeLength}
 use Rattle.envelope.specs.Layout.{securityControl, keyFor, nonce, associatedData, countedLength, head, headSize, sealedEnvelope}
-use Rattle.envelope.specs.Opening.{longestApdu, shapeFrom, shapeOf, Opened, fails, opens, opened, openedBy}
+use Rattle.envelope.specs.Opening.{longestApdu, shapeFrom, shapeOf, fails, opens, opened, openedBy}
 use Rattle.envelope.specs.declared.Keys.{Keys}
 use Rattle.envelope.specs.declared.Shape.{Shape}
 use Rattle.envelope.specs.declared.Shape.the-variants.{Misshapen, Shaped}
 use Rattle.envelope.proofs.ShapeLaws.{longest-apdu, places-of, head-of}
-use Rattle.envelope.proofs.CloseLaws.{length-head, envelope-size, length-envelope}
+use Rattle.envelope.proofs.CloseLaws.{length-head, length-envelope}
 use Rattle.envelope.proofs.StandsLaws.{middle, expect-back, cut}
 
 -- A head, and as many bytes behind it as it counts, have the shape of an envelope.

@@ -1,5 +1,5 @@
 -- The challenge proofs (document 01, "The association" and "The envelope and its counters"): "10, a counter, and the 12-byte
--- GMAC over 10, AK, meter's challenge under GUK", as the parameter of an ACTION; "the meter answers likewise over H's challenge".
+-- GMAC over 10, AK, meter's challenge under GUK", as the parameter of an ACTION; and the meter's own, over H's challenge.
 -- A wrong proof is answered 250 (refusal 13); that answer is not made here.
 use mathlib.Core.Bool.{Bool, false, _&&_}
 use mathlib.Core.List.{List, [], _∷_, _++_}
@@ -16,7 +16,7 @@ use Rattle.envelope.specs.declared.Keys.{Keys}
 abbrev pub proofControl : ℕ
 proofControl = 0x10
 
--- what the GMAC goes over: "10, AK, challenge"
+-- what the GMAC goes over: 10, AK and the other side's challenge
 unfoldable pub proofData : Keys → List ℕ → List ℕ
 proofData k challenge = proofControl ∷ (k .ak ++ challenge)
 

@@ -32,7 +32,8 @@ shapeFrom s at =
     thenField (numberAt 4 s a) Misshapen (λ counter b.
     cond (leb (b + tagLength) (length s)) (Shaped counter b (length s - tagLength)) Misshapen))
 
--- The whole "shape": an APDU in size, the tag, and a length, in its shortest form, equal to what follows.
+-- The whole "shape": the tag, and a length, in its shortest form, equal to what follows. No frame brings more bytes than the
+-- longest APDU; as the text is given room by that length, more bytes have no shape.
 unfoldable pub shapeOf : ℕ → List ℕ → Shape
 shapeOf tag s =
     cond (ltb longestApdu (length s)) Misshapen
@@ -87,7 +88,7 @@ pub record AdmittedInto (accepted : ℕ) (o : Opened) (l m : List ℕ) (r : Admi
   pub kept : length m ≡ length l
 
 -- the refusals of document 01's table, or 0: "envelope outside an AARQ does not open", "counter outside its window"
-abbrev pub refusalOf : Admission → ℕ
-refusalOf Unopened = 6
-refusalOf OutsideWindow = 7
-refusalOf (Admitted counter size) = 0
+abbrev pub admissionRefusal : Admission → ℕ
+admissionRefusal Unopened = 6
+admissionRefusal OutsideWindow = 7
+admissionRefusal (Admitted counter size) = 0

@@ -20,7 +20,7 @@ use Rattle.hdlc.specs.declared.Verdict.{Verdict}
 use Rattle.hdlc.specs.declared.Verdict.the-variants.{Failed, Passed}
 
 -- The side of the link that reads: its address, the addresses that it takes frames from, the LLC that it expects, and the
--- longest information that it takes. The tests are the same on both sides.
+-- longest information that it takes. Of data frames the tests are the same on both sides.
 pub record Side : Type 0 where
   pub own : ℕ
   pub takes : ℕ → Bool
@@ -39,7 +39,7 @@ abbrev pub meterSide : Side
 meterSide =
     record { own = meterAddress; takes = λ a. isKnown (senderOf a); llc = requestLlc; longest = longestReceived }
 
--- a client, which takes replies of the meter
+-- a client, which takes data frames of the meter
 abbrev pub clientSide : Client → Side
 clientSide c =
     record { own = addressOf c; takes = λ a. eqb a meterAddress; llc = replyLlc; longest = longestSent }

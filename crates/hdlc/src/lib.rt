@@ -81,7 +81,7 @@ pub enum Frame {
     },
 }
 
-// The first byte of the field that a test is about, counted from 0; none for a test of the whole frame.
+// The first byte of the field that a test is about, counted from 0; none for refusals 5 and 8.
 pub enum Place {
     Byte(usize),
     Nowhere,

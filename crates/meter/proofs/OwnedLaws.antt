@@ -1,5 +1,5 @@
 -- What the promise of an owner's call says of what it handed back, whatever the protocol: the model's refusal and meter.
-use mathlib.Core.Path.{_≡_, refl}
+use mathlib.Core.Path.{_≡_}
 use mathlib.Core.List.{[]}
 use Rattle.model.specs.Calls.{Call, Protocol, answer, step}
 use Rattle.model.specs.Archive.{KeepsLines}

@@ -17,7 +17,7 @@ use Rattle.body.specs.View.{bodyOf}
 use Rattle.meter.specs.declared.Meter.{Meter}
 use Rattle.meter.specs.declared.Changed.{Changed}
 use Rattle.meter.specs.View.{view}
-use Rattle.meter.specs.Promise.{Owned, changed}
+use Rattle.meter.specs.Promise.{Owned}
 use Rattle.meter.specs.Unsound.{Verdict, soundMeter, unsoundMeters, sixteenRows, VerdictsRight, UnsoundAnswers3, TableAnswers3}
 use Rattle.meter.proofs.OwnedLaws.{owned-refusal}
 

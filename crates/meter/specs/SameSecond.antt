@@ -9,7 +9,7 @@ use Rattle.model.specs.declared.Clock.{Clock}
 use Rattle.model.specs.Limits.{maxRows}
 use Rattle.model.specs.Clocks.{validClock}
 use Rattle.model.specs.Periods.{captureDue}
-use Rattle.model.specs.State.{Entry, Body}
+use Rattle.model.specs.State.{Entry}
 use Rattle.model.specs.Soundness.{sound}
 use Rattle.model.specs.Calls.{tick}
 use Rattle.model.specs.Archive.{rowsOf, dueRow}

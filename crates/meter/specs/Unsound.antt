@@ -12,7 +12,7 @@ use Rattle.model.specs.declared.Clock.{Clock}
 use Rattle.model.specs.declared.Register.{Register}
 use Rattle.model.specs.Limits.{maxRegisters, maxColumns}
 use Rattle.model.specs.Names.{every, distinct, allAmong, noneAmong, nameOf}
-use Rattle.model.specs.State.{Entry, Model, withBody, withStore, withRows}
+use Rattle.model.specs.State.{Model, withBody, withStore, withRows}
 use Rattle.model.specs.Objects.{ownNames, profileNamed}
 use Rattle.model.specs.Soundness.{SoundnessTest, registerList, columnList, periodPermitted, clockValid, rowClocksValid, rowCount, rowCells, associationKind, associationOnLink, agreedServices, passes, soundnessTests, sound}
 use Rattle.model.specs.Calls.{Call, early}
@@ -24,7 +24,6 @@ use Rattle.store.specs.Lists.{entryOf}
 use Rattle.line.specs.declared.Phase.{Phase}
 use Rattle.line.specs.declared.Phase.the-variants.{Pending, Associated}
 use Rattle.line.specs.declared.Party.{Party}
-use Rattle.line.specs.declared.CipherParty.{CipherParty}
 use Rattle.line.specs.declared.LineState.{LineState}
 use Rattle.body.specs.declared.BodyState.{BodyState}
 use Rattle.meter.specs.declared.Meter.{Meter}

@@ -146,8 +146,8 @@ module _ (l : Line) (s : soundLine l ≡ true) where
     keeps-proved : (invoke counter : ℕ) → agreedWithin (offered c) (associated (agreedIn (peer c l .association)) []) ≡ true → Keeps (proved l a c h invoke counter)
     unfolding proved
     keeps-proved invoke counter w =
-        with-peer c (withAssociation (associated (agreedIn (peer c l .association)) (keyIn (l .han .peer .association))) (peer c l)) l
-        (good-standing c (associated (agreedIn (peer c l .association)) (keyIn (l .han .peer .association))) (peer c l) (associated-kind c _ _) w up) s
+        with-peer c (withAssociation (associated (agreedIn (peer c l .association)) (keyIn (peer c l .association))) (peer c l)) l
+        (good-standing c (associated (agreedIn (peer c l .association)) (keyIn (peer c l .association))) (peer c l) (associated-kind c _ _) w up) s
 
     keeps-initiated : (client text : List ℕ) (counter : ℕ) → ciphers c ≡ true → (r : InitiateRequest) → Keeps (initiated l a c h client text counter r)
     keeps-initiated client text counter k (Accepted key services) = keeps-ciphered client (take 16 (drop key text)) (take 3 (drop services text)) counter k

@@ -52,7 +52,7 @@ keyIn none = []
 keyIn (pending a k c s) = k
 keyIn (associated a k) = k
 
--- the keys of H: those lent, and the dedicated key of its association
+-- the keys of H, the one client that ciphers: those lent, and the dedicated key of its association
 abbrev pub keysOf : (guk ak : List ℕ) → Line → Keys
 keysOf guk ak l = record { guk = guk; ak = ak; dedicated = keyIn (l .han .peer .association) }
 

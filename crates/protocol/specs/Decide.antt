@@ -43,12 +43,13 @@ use Rattle.counters.specs.Window.{inWindow, accepting}
 use Rattle.envelope.specs.Layout.{sealedEnvelope}
 use Rattle.envelope.specs.Opening.{Opened, fails, opens, opened}
 use Rattle.envelope.specs.Challenge.{rightProof, proofValue}
-use Rattle.protocol.specs.Clients.{peer, withPeer, linked, associates, withCounters, agreedIn, keysOf, selectiveIn, permitted, bitAgreed, isUnknown}
+use Rattle.protocol.specs.Clients.{peer, withPeer, linked, associates, withCounters, agreedIn, keyIn, keysOf, selectiveIn, permitted, bitAgreed, isUnknown}
 use Rattle.protocol.specs.Rulings.{Test, none as noTest, frame, linkUpWithInformation, p5HoldsV, linkDownWhileDown, dataWhileDown, unknownTag, tagNotPermitted, bitNotAgreed, aarqNotAccepted, envelopeUnopened, outsideWindow, malformedApdu, notTheChallenge, wrongProof, nothing, ua, dm, reject, apdu, Ruling, says, asks, decision}
 
 -- Links.
 
--- "93 with information, or from V while P5 holds V: DM. Any other 93: UA, link up, the client's association ended."
+-- "93 with information, or from V while P5 holds V (an owner's flag): DM. Any other 93: UA (73), link up, the client's
+-- association ended."
 abbrev pub heldByP5 : Client → Line → Bool
 heldByP5 Verification l = l .p5
 heldByP5 Han l = false
@@ -71,7 +72,7 @@ excepted t e h l = says t (apdu h (exceptionBytes e)) l
 
 -- Associations.
 
--- "any departure is refusal 11"
+-- a departure is refusal 11, "an envelope that does not open included"
 abbrev pub rejected : Client → Head → Line → Ruling
 rejected c h l = says aarqNotAccepted (apdu h (rejectedAare c)) l
 
@@ -171,7 +172,7 @@ proved l a c h invoke counter =
     let second = taken (first .counters) in
     let text = (0xC7 ∷ 0x01 ∷ invoke ∷ 0x00 ∷ 0x01 ∷ 0x00 ∷ []) ++ proofValue keys (l .title) (clientChallenge held) (first .number) in
     says noTest (apdu h (sealedEnvelope keys (l .title) 0xCF (second .number) text))
-    (withCounters (second .counters) (associates c (associated (agreedIn held) (keysOf [] [] l .dedicated)) l))
+    (withCounters (second .counters) (associates c (associated (agreedIn held) (keyIn held)) l))
 
 -- "a wrong proof, or any other parameter or none, answers 250 and the state is none"
 unfoldable pub disproved : Line → Lent → Client → Head → (invoke counter : ℕ) → Ruling
@@ -213,7 +214,7 @@ byTag l a c h s DedGetRequest =
     admitted l c (opened (keysOf (a .guk) (a .ak) l) (peer c l .title) 0xD0 s) (λ counter text. askedInside l a c h 0xD0 counter text (readGet text))
 byTag l a c h s DedActionRequest =
     admitted l c (opened (keysOf (a .guk) (a .ak) l) (peer c l .title) 0xD3 s) (λ counter text. askedInside l a c h 0xD3 counter text (readAction text))
--- never permitted
+-- never reached: `conversed` refuses them
 byTag l a c h s SetRequest = excepted tagNotPermitted ServiceNotAllowed h l
 byTag l a c h s ActionRequest = excepted tagNotPermitted ServiceNotAllowed h l
 byTag l a c h s DedSetRequest = excepted tagNotPermitted ServiceNotAllowed h l

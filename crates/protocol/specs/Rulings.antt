@@ -1,5 +1,5 @@
 -- What a frame on a sound meter comes to: the test of document 01 that it fails first, or none; what goes out; and the line
--- afterwards. Every refusal's number follows from the test.
+-- afterwards. The number of a refusal follows from the test; that of a request which the body denies, from the model.
 use mathlib.Core.List.{List, []}
 use Prim.Native.Nat.{ℕ}
 use Rattle.model.specs.State.{Line}
@@ -8,6 +8,8 @@ use Rattle.model.specs.Calls.{Wrap, Decision, answer, serve}
 use Rattle.hdlc.specs.declared.Head.{Head}
 use Rattle.hdlc.specs.declared.FrameTest.{FrameTest}
 use Rattle.hdlc.specs.Tests.{numberOf}
+use Rattle.envelope.specs.Opening.{admissionRefusal}
+use Rattle.envelope.specs.declared.Admission.the-variants.{Unopened, OutsideWindow}
 use Rattle.hdlc.specs.Replies.{uaFrame, dmFrame, frmrFrame, apduFrame}
 
 -- the tests, frames' own first; `none` is no failing test
@@ -32,8 +34,8 @@ refusalOf unknownTag = 12
 refusalOf tagNotPermitted = 12
 refusalOf bitNotAgreed = 12
 refusalOf aarqNotAccepted = 11
-refusalOf envelopeUnopened = 6
-refusalOf outsideWindow = 7
+refusalOf envelopeUnopened = admissionRefusal Unopened
+refusalOf outsideWindow = admissionRefusal OutsideWindow
 refusalOf malformedApdu = 12
 refusalOf notTheChallenge = 12
 refusalOf wrongProof = 13
