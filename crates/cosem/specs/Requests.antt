@@ -1,22 +1,24 @@
 -- GET and ACTION requests, plain (document 01, "Objects and rows"; Get-Request-Normal and Action-Request-Normal of the Green
--- Book), and the model's request that each is. What it comes to is the model's.
+-- Book), and the model's request that each is. What it comes to is the model's. The places of the fields:
 --
---   GET       C0 01, invoke byte, class (2), name (6), attribute, 00
---             C0 01, invoke byte, class (2), name (6), attribute, 01, selector, value
---   ACTION    C3 01, invoke byte, class (2), name (6), method, 00
---             C3 01, invoke byte, class (2), name (6), method, 01, value
+--        0  tag and choice: C0 01 for GET, C3 01 for ACTION
+--        2  invoke byte
+--        3  class, two bytes
+--        5  name, six bytes
+--       11  attribute or method
+--       12  00, where the request ends; or 01, and then
+--   GET 13  selector             ACTION 13  value, to the end
+--       14  value, to the end
 use mathlib.Core.Bool.{Bool, false, cond}
 use mathlib.Core.List.{List, [], _∷_}
-use Prim.Native.Nat.{ℕ}
+use Prim.Native.Nat.{ℕ, _+_, _*_}
 use lib.Dec.{eqb}
-use lib.ListN.{length, drop}
-use Rattle.wire.specs.Reading.{expected, filled, numberAt, skipped, thenAt, thenField}
+use lib.ListN.{length, drop, getD}
+use Rattle.wire.specs.Reading.{expected, filled, numberAt, thenAt, thenField}
 use Rattle.axdr.specs.Values.{valueEnd}
 use Rattle.model.specs.declared.Client.{Client}
 use Rattle.model.specs.declared.Name.{Name}
 use Rattle.model.specs.Objects.{Request, Service, get, action, all, selected, absent, present}
-use Rattle.cosem.specs.declared.Head.{Head}
-use Rattle.cosem.specs.declared.Head.the-variants.{Begins, Broken}
 use Rattle.cosem.specs.declared.Part.{Part}
 use Rattle.cosem.specs.declared.Part.the-variants.{Absent, Present, Wrong}
 use Rattle.cosem.specs.declared.Wanted.{Wanted}
@@ -25,67 +27,63 @@ use Rattle.cosem.specs.declared.Asked.{Asked}
 use Rattle.cosem.specs.declared.Reading.{Reading}
 use Rattle.cosem.specs.declared.Reading.the-variants.{Asks, Malformed}
 
--- the tag and choice of each
+-- tag and choice
 abbrev pub getNormal : List ℕ
 getNormal = 0xC0 ∷ 0x01 ∷ []
 
 abbrev pub actionNormal : List ℕ
 actionNormal = 0xC3 ∷ 0x01 ∷ []
 
--- what both begin with, up to the attribute or method
-unfoldable pub headOf : List ℕ → List ℕ → Head
-headOf s choice =
-    thenAt (expected s 0 choice) Broken (λ a.
-    thenField (numberAt 1 s a) Broken (λ invoke b.
-    thenField (numberAt 2 s b) Broken (λ class c.
-    thenAt (skipped s c 6) Broken (λ d.
-    thenField (numberAt 1 s d) Broken (λ id next. Begins invoke class id next)))))
+-- the byte at a place; 0 past the end
+abbrev pub byte : List ℕ → ℕ → ℕ
+byte s at = getD s at 0
 
-abbrev pub thenHead : Head → (ℕ → ℕ → ℕ → ℕ → Reading) → Reading
-thenHead (Begins invoke class id next) f = f invoke class id next
-thenHead Broken f = Malformed
+-- "Names are six bytes"; zeros where the APDU is too short for one
+unfoldable pub nameIn : List ℕ → Name
+nameIn s = record { bytes = filled s 5 (0 ∷ 0 ∷ 0 ∷ 0 ∷ 0 ∷ 0 ∷ []) }
 
--- an optional part: 00, where the APDU ends; or 01, and what stands after it
-unfoldable pub partAt : List ℕ → ℕ → Part
-partAt s at =
-    thenField (numberAt 1 s at) Wrong (λ presence next.
-    cond (eqb presence 0x00) (cond (eqb next (length s)) Absent Wrong)
-    (cond (eqb presence 0x01) (Present next) Wrong))
+-- a request that wants this, with the invoke byte and the class of the APDU
+abbrev pub asking : List ℕ → Wanted → Reading
+asking s w = Asks (record { invoke = byte s 2; class = byte s 3 * 256 + byte s 4; wanted = w })
+
+-- by the presence byte: 00, where the APDU ends after it; or 01
+abbrev pub partBy : List ℕ → (presence next : ℕ) → Part
+partBy s presence next =
+    cond (eqb presence 0x00) (cond (eqb next (length s)) Absent Wrong) (cond (eqb presence 0x01) Present Wrong)
+
+-- the optional part of a request of this tag and choice
+unfoldable pub optionalPart : List ℕ → List ℕ → Part
+optionalPart choice s = thenAt (expected s 0 choice) Wrong (λ next. thenField (numberAt 1 s 12) Wrong (partBy s))
 
 -- "one whole value", with which the APDU ends
 unfoldable pub lastValue : List ℕ → ℕ → Bool
 lastValue s at = thenAt (valueEnd s at) false (λ e. eqb e (length s))
 
-abbrev pub asking : (invoke class : ℕ) → Wanted → Reading
-asking invoke class w = Asks (record { invoke = invoke; class = class; wanted = w })
+-- a request that wants this, where its value is whole
+abbrev pub askingWith : List ℕ → ℕ → Wanted → Reading
+askingWith s at w = cond (lastValue s at) (asking s w) Malformed
 
--- GET of an attribute, by the part that holds its selector and value
-abbrev pub getWith : List ℕ → (invoke class attribute : ℕ) → Part → Reading
-getWith s invoke class a Absent = asking invoke class (Read a)
-getWith s invoke class a (Present at) =
-    thenField (numberAt 1 s at) Malformed (λ selector value.
-    cond (lastValue s value) (asking invoke class (ReadSelected a selector value)) Malformed)
-getWith s invoke class a Wrong = Malformed
+-- a GET request, by its optional part
+abbrev pub getWith : List ℕ → Part → Reading
+getWith s Absent = asking s (Read (byte s 11))
+getWith s Present = askingWith s 14 (ReadSelected (byte s 11) (byte s 13) 14)
+getWith s Wrong = Malformed
 
 unfoldable pub readGet : List ℕ → Reading
-readGet s = thenHead (headOf s getNormal) (λ invoke class a next. getWith s invoke class a (partAt s next))
+readGet s = getWith s (optionalPart getNormal s)
 
--- ACTION on a method, by the part that holds its parameter
-abbrev pub actionWith : List ℕ → (invoke class method : ℕ) → Part → Reading
-actionWith s invoke class k Absent = asking invoke class (Invoke k)
-actionWith s invoke class k (Present value) =
-    cond (lastValue s value) (asking invoke class (InvokeWith k value)) Malformed
-actionWith s invoke class k Wrong = Malformed
+-- an ACTION request, by its optional part
+abbrev pub actionWith : List ℕ → Part → Reading
+actionWith s Absent = asking s (Invoke (byte s 11))
+actionWith s Present = askingWith s 13 (InvokeWith (byte s 11) 13)
+actionWith s Wrong = Malformed
 
 unfoldable pub readAction : List ℕ → Reading
-readAction s = thenHead (headOf s actionNormal) (λ invoke class k next. actionWith s invoke class k (partAt s next))
-
--- "Names are six bytes": after the choice, the invoke byte and the class; zeros where the APDU is too short for one
-unfoldable pub nameIn : List ℕ → Name
-nameIn s = record { bytes = filled s 5 (0 ∷ 0 ∷ 0 ∷ 0 ∷ 0 ∷ 0 ∷ []) }
+readAction s = actionWith s (optionalPart actionNormal s)
 
 -- The model's request.
 
+-- what is wanted, with the bytes of the value from the APDU
 abbrev pub serviceIn : List ℕ → Wanted → Service
 serviceIn s (Read a) = get a all
 serviceIn s (ReadSelected a selector at) = get a (selected selector (drop at s))

@@ -35,21 +35,10 @@ pub enum Exception {
     ServiceUnknown,
 }
 
-// What a request begins with: invoke byte, class, attribute or method, and the position after them; or that it does not.
-pub enum Head {
-    Begins {
-        invoke: u8,
-        class: u16,
-        id: u8,
-        next: usize,
-    },
-    Broken,
-}
-
-// An optional part that ends an APDU: where it begins, or that there is none; or that neither is said.
+// The optional part of a request: its selector and value, or its parameter. Wrong where an APDU is no such request.
 pub enum Part {
     Absent,
-    Present(usize),
+    Present,
     Wrong,
 }
 

@@ -1,7 +1,6 @@
 // GET and ACTION requests: each reader says for every slice what it asks, or that it is malformed. Every selector and every
-// parameter is judged by the value reader of the crate axdr.
+// parameter is judged by the value reader of the crate axdr. specs/Requests has the places of the fields.
 use crate::Asked;
-use crate::Head;
 use crate::Part;
 use crate::Reading;
 use crate::Wanted;
@@ -9,40 +8,44 @@ use model::Name;
 use wire::End;
 use wire::Field;
 ghost use mathlib.Core.Path.{_≡_};
-ghost use Rattle.cosem.specs.Requests.{actionWith, getWith, headOf, lastValue, nameIn, partAt, readAction, readGet};
+ghost use Prim.Native.Nat.{_<_};
+ghost use Rattle.cosem.specs.Requests.{asking, askingWith, byte, lastValue, nameIn, optionalPart, readAction, readGet};
 
 // A GET request.
 pub fn read_get(apdu: &[u8]) -> Reading
     ensures { λ r. ⌜ r ≡ readGet (now (apdu .entry)) ⌝ }
 {
-    let Head::Begins {
-        invoke,
-        class,
-        id,
-        next,
-    } = head_of(apdu, b"\xC0\x01")
-    else {
-        return Reading::Malformed;
-    };
-    let part = part_at(apdu, next);
-    get_with(apdu, invoke, class, id, part)
+    let attribute = byte_of(apdu, 11);
+    let part = optional_part(b"\xC0\x01", apdu);
+    match part {
+        Part::Absent => asks(apdu, Wanted::Read { attribute }),
+        Part::Present => {
+            let selector = byte_of(apdu, 13);
+            asks_with(
+                apdu,
+                14,
+                Wanted::ReadSelected {
+                    attribute,
+                    selector,
+                    at: 14,
+                },
+            )
+        }
+        Part::Wrong => Reading::Malformed,
+    }
 }
 
 // An ACTION request.
 pub fn read_action(apdu: &[u8]) -> Reading
     ensures { λ r. ⌜ r ≡ readAction (now (apdu .entry)) ⌝ }
 {
-    let Head::Begins {
-        invoke,
-        class,
-        id,
-        next,
-    } = head_of(apdu, b"\xC3\x01")
-    else {
-        return Reading::Malformed;
-    };
-    let part = part_at(apdu, next);
-    action_with(apdu, invoke, class, id, part)
+    let method = byte_of(apdu, 11);
+    let part = optional_part(b"\xC3\x01", apdu);
+    match part {
+        Part::Absent => asks(apdu, Wanted::Invoke { method }),
+        Part::Present => asks_with(apdu, 13, Wanted::InvokeWith { method, at: 13 }),
+        Part::Wrong => Reading::Malformed,
+    }
 }
 
 // The name in a request; zeros where there is no room for one.
@@ -54,49 +57,17 @@ pub fn name_in(apdu: &[u8]) -> Name
     Name { bytes }
 }
 
-// What a request with this tag and choice begins with.
-fn head_of(s: &[u8], choice: &[u8]) -> Head
-    ensures { λ r. ⌜ r ≡ headOf (now (s .entry)) (now (choice .entry)) ⌝ }
+// Whether the optional part of a request of this tag and choice is there.
+fn optional_part(choice: &[u8], s: &[u8]) -> Part
+    ensures { λ r. ⌜ r ≡ optionalPart (now (choice .entry)) (now (s .entry)) ⌝ }
 {
-    let End::At(a) = wire::expect_at(s, 0, choice) else {
-        return Head::Broken;
+    let End::At(_) = wire::expect_at(s, 0, choice) else {
+        return Part::Wrong;
     };
-    let Field::Found {
-        value: invoke,
-        next: b,
-    } = wire::byte_at(s, a)
-    else {
-        return Head::Broken;
-    };
-    let Field::Found {
-        value: class,
-        next: c,
-    } = wire::u16_at(s, b)
-    else {
-        return Head::Broken;
-    };
-    let End::At(d) = wire::skip_at(s, c, 6) else {
-        return Head::Broken;
-    };
-    let Field::Found { value: id, next } = wire::byte_at(s, d) else {
-        return Head::Broken;
-    };
-    Head::Begins {
-        invoke: invoke as u8,
-        class: class as u16,
-        id: id as u8,
-        next,
-    }
-}
-
-// The optional part at `at`.
-fn part_at(s: &[u8], at: usize) -> Part
-    ensures { λ r. ⌜ r ≡ partAt (now (s .entry)) at ⌝ }
-{
     let Field::Found {
         value: presence,
         next,
-    } = wire::byte_at(s, at)
+    } = wire::byte_at(s, 12)
     else {
         return Part::Wrong;
     };
@@ -106,7 +77,7 @@ fn part_at(s: &[u8], at: usize) -> Part
         } else {
             Part::Wrong
         },
-        0x01 => Part::Present(next),
+        0x01 => Part::Present,
         _ => Part::Wrong,
     }
 }
@@ -121,61 +92,37 @@ fn is_last_value(s: &[u8], at: usize) -> bool
     end == s.len()
 }
 
-// A GET of an attribute with its optional selector and value.
-fn get_with(s: &[u8], invoke: u8, class: u16, attribute: u8, part: Part) -> Reading
-    ensures { λ r. ⌜ r ≡ getWith (now (s .entry)) invoke class attribute part ⌝ }
+// The request that wants `w`.
+fn asks(s: &[u8], w: Wanted) -> Reading
+    ensures { λ r. ⌜ r ≡ asking (now (s .entry)) w ⌝ }
 {
-    match part {
-        Part::Absent => Reading::Asks(Asked {
-            invoke,
-            class,
-            wanted: Wanted::Read { attribute },
-        }),
-        Part::Present(at) => {
-            let Field::Found {
-                value: selector,
-                next: value,
-            } = wire::byte_at(s, at)
-            else {
-                return Reading::Malformed;
-            };
-            if !is_last_value(s, value) {
-                return Reading::Malformed;
-            }
-            Reading::Asks(Asked {
-                invoke,
-                class,
-                wanted: Wanted::ReadSelected {
-                    attribute,
-                    selector: selector as u8,
-                    at: value,
-                },
-            })
-        }
-        Part::Wrong => Reading::Malformed,
+    Reading::Asks(Asked {
+        invoke: byte_of(s, 2),
+        class: wide(byte_of(s, 3)) * 256 + wide(byte_of(s, 4)),
+        wanted: w,
+    })
+}
+
+// The request that wants `w`, where its value stands at `at` and is whole.
+fn asks_with(s: &[u8], at: usize, w: Wanted) -> Reading
+    ensures { λ r. ⌜ r ≡ askingWith (now (s .entry)) at w ⌝ }
+{
+    if is_last_value(s, at) {
+        asks(s, w)
+    } else {
+        Reading::Malformed
     }
 }
 
-// An ACTION on a method with its optional parameter.
-fn action_with(s: &[u8], invoke: u8, class: u16, method: u8, part: Part) -> Reading
-    ensures { λ r. ⌜ r ≡ actionWith (now (s .entry)) invoke class method part ⌝ }
+// The byte at `at`; 0 past the end.
+fn byte_of(s: &[u8], at: usize) -> u8
+    ensures { λ r. ⌜ r ≡ byte (now (s .entry)) at ⌝ }
 {
-    match part {
-        Part::Absent => Reading::Asks(Asked {
-            invoke,
-            class,
-            wanted: Wanted::Invoke { method },
-        }),
-        Part::Present(value) => {
-            if !is_last_value(s, value) {
-                return Reading::Malformed;
-            }
-            Reading::Asks(Asked {
-                invoke,
-                class,
-                wanted: Wanted::InvokeWith { method, at: value },
-            })
-        }
-        Part::Wrong => Reading::Malformed,
-    }
+    if at < s.len() { s[at] } else { 0 }
+}
+
+fn wide(b: u8) -> u16
+    ensures { λ r. ⌜ (r ≡ b) × (r < 256) ⌝ }
+{
+    b as u16
 }

@@ -2,6 +2,7 @@
 -- the remaining depth falls; from element to element the number of those left.
 use mathlib.Core.Path.{_≡_, refl, sym, _∙_}
 use Prim.Native.Nat.{ℕ, _+_, _-_, _*_, _<_}
+use native.Mathlib.Omega.{arith}
 use borrow.Author.Needs.{needs}
 use borrow.Fn.Kinds.{In}
 use borrow.Fn.PlainCycle.{Measures, is, falls, and}
@@ -90,14 +91,14 @@ pub +elements-end+value-within-spec : {M : Type 1} → statement M
     (λ c.
     let v = c .before .before in
     let l = v .before .before .loop in
-    sym (elements-stop _ _ (l .next) (v .before .loop-test .taken) (sym (v .value-within .ensures) ∙ c .enum-told .given .1)) ∙ l .inv)
+    sym (elements-stop _ (l .left) (l .next) (omega arith) (sym (v .value-within .ensures) ∙ c .enum-told .given .1)) ∙ l .inv)
     (λ c. search needs)
     (λ c. search needs)
     (λ c.
     let v = c .before .before .before in
     let l = v .before .before .loop in
-    elements-turn _ _ (l .next) (v .before .loop-test .taken) (sym (v .value-within .ensures) ∙ c .before .end .given .1) ∙ l .inv)
-    (λ c. let l = c .before .loop in sym (elements-none _ _ (l .next) (c .loop-test .left)) ∙ l .inv))
+    elements-turn _ (l .left) (l .next) (omega arith) (sym (v .value-within .ensures) ∙ c .before .end .given .1) ∙ l .inv)
+    (λ c. let l = c .before .loop in sym (elements-none _ (l .left) (l .next) (omega arith)) ∙ l .inv))
     (λ t.
     value-within-lts.spec (of-value t) (value-within-at t) value-within.Post
     (λ c. let a = c .before .before .args in rw (value-none _ (a .s .now) (a .at) (c .if1 .taken)))

@@ -9,9 +9,11 @@ pub read-action-spec : {M : Type 1} → statement M
 unfolding readAction
 read-action-spec =
     tie.close
-    (tie.spec (λ c. search needs) (λ c κs. search needs) (λ c. search needs) (λ c. search needs)
-    (λ c. rw (sym (c .before .before .head-of .ensures), c .enum-told .given .1))
-    (λ c κs. search needs) (λ c κs. search needs)
+    (tie.spec (λ c κs. search needs) (λ c. search needs) (λ c κs. search needs) (λ c. search needs) (λ c κs. search needs) (λ c. search needs) (λ c κs. search needs) (λ c. search needs)
     (λ c.
-    let h = c .before .before .before in
-    rw (sym (h .before .before .head-of .ensures), h .invoke .given .1, sym (c .before .part-at .ensures)) (c .action-with .ensures)))
+    let p = c .before .before .before in
+    rw (sym (p .optional-part .ensures), c .before .enum-told .given .1, sym (p .before .before .byte-of .ensures)) (c .asks .ensures))
+    (λ c.
+    let p = c .before .before .before in
+    rw (sym (p .optional-part .ensures), c .before .enum-told2 .given .1, sym (p .before .before .byte-of .ensures)) (c .asks-with .ensures))
+    (λ c. rw (sym (c .before .before .optional-part .ensures), c .enum-told3 .given .1)))
