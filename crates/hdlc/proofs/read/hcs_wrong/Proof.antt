@@ -1,5 +1,6 @@
 -- `hdlc::read::hcs_wrong` meets its contract.
 use mathlib.Core.Path.{sym}
+use Prim.Native.Nat.{_%_}
 use borrow.Author.Needs.{needs}
 use borrow.Author.Tests.{lt-ltb, le-ltb}
 use Rattle.hdlc.specs.Layout.{hcsOf}
@@ -7,7 +8,7 @@ use Rattle.hdlc.proofs.read.hcs_wrong.Statement.{statement}
 use Rattle.hdlc.proofs.read.hcs_wrong.Tie as tie
 
 returns : tie.Need-returns
-returns c = rw (sym (c .before .format-of .ensures .0), le-ltb _ _ (c .if1 .taken))
+returns c = rw (sym (c .before .format-of .ensures .0), le-ltb 8 (c .before .format-of .result % 0x800) (c .if1 .taken))
 
 returns-2 : tie.Need-returns-2
 unfolding hcsOf
