@@ -86,7 +86,14 @@ pub record AdmittedInto (accepted : ℕ) (o : Opened) (l m : List ℕ) (r : Admi
   pub room : m ≡ roomAfter o l
   pub kept : length m ≡ length l
 
--- the refusals of document 01's table, or 0: "envelope outside an AARQ does not open", "counter outside its window"
+-- The refusals of document 01's table, or 0.
+
+-- in an AARQ: "any departure, an envelope that does not open included, is refusal 11"
+abbrev pub aarqRefusalOf : Opening → ℕ
+aarqRefusalOf Fails = 11
+aarqRefusalOf (Opens counter size) = 0
+
+-- elsewhere: "envelope outside an AARQ does not open", "counter outside its window"
 abbrev pub refusalOf : Admission → ℕ
 refusalOf Unopened = 6
 refusalOf OutsideWindow = 7
