@@ -87,7 +87,14 @@ pub record AdmittedInto (accepted : ℕ) (o : Opened) (l m : List ℕ) (r : Admi
   pub room : m ≡ roomAfter o l
   pub kept : length m ≡ length l
 
--- the refusals of document 01's table, or 0: "envelope outside an AARQ does not open", "counter outside its window"
+-- The refusals of document 01's table, or 0.
+
+-- in an AARQ: "any departure, an envelope that does not open included, is refusal 11"
+abbrev pub openingRefusal : Opening → ℕ
+openingRefusal Fails = 11
+openingRefusal (Opens counter size) = 0
+
+-- elsewhere: "envelope outside an AARQ does not open", "counter outside its window"
 abbrev pub admissionRefusal : Admission → ℕ
 admissionRefusal Unopened = 6
 admissionRefusal OutsideWindow = 7

@@ -36,7 +36,7 @@ pub enum Admission {
 }
 
 // The counter of an envelope, and where its cipher text and its GCM tag begin; or none, where the bytes are not of that shape.
-pub enum Shape {
+enum Shape {
     Misshapen,
     Shaped {
         counter: u32,

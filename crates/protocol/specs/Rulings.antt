@@ -8,7 +8,8 @@ use Rattle.model.specs.Calls.{Wrap, Decision, answer, serve}
 use Rattle.hdlc.specs.declared.Head.{Head}
 use Rattle.hdlc.specs.declared.FrameTest.{FrameTest}
 use Rattle.hdlc.specs.Tests.{numberOf}
-use Rattle.envelope.specs.Opening.{admissionRefusal}
+use Rattle.envelope.specs.Opening.{openingRefusal, admissionRefusal}
+use Rattle.envelope.specs.declared.Opening.the-variants.{Fails}
 use Rattle.envelope.specs.declared.Admission.the-variants.{Unopened, OutsideWindow}
 use Rattle.hdlc.specs.Replies.{uaFrame, dmFrame, frmrFrame, apduFrame}
 
@@ -33,7 +34,7 @@ refusalOf dataWhileDown = 10
 refusalOf unknownTag = 12
 refusalOf tagNotPermitted = 12
 refusalOf bitNotAgreed = 12
-refusalOf aarqNotAccepted = 11
+refusalOf aarqNotAccepted = openingRefusal Fails
 refusalOf envelopeUnopened = admissionRefusal Unopened
 refusalOf outsideWindow = admissionRefusal OutsideWindow
 refusalOf malformedApdu = 12
