@@ -55,7 +55,7 @@ fn association() {
     );
 }
 
-// The challenge: H's proof, 201, in an envelope, 202, and the meter's, 2 and 3; and the answer to a wrong proof.
+// The challenge in its envelope, 202.
 fn challenge() {
     let cb =
         b"7E A0 3F 03 27 13 FD 78 E6 E6 00 CB 31 30 00 00 00 CA 46 87 EF 5E 34 7C 0C 09 94 D9 99 13 \
@@ -70,12 +70,23 @@ fn challenge() {
         b"C3 01 C1 00 0F 00 00 28 00 04 FF 01 01 09 11 10 00 00 00 C9 D6 A8 C2 A5 3B 23 1E 09 82 FF 81 9C",
     );
     changed(b"CB, changed", HAN, 0xCB, 11, cb);
+    admissions(cb);
+    proofs(b"09 11 10 00 00 00 C9 D6 A8 C2 A5 3B 23 1E 09 82 FF 81 9C");
+    answered();
+    wrong_answered();
+}
+
+// Its window; and a tag under which it does not open, whatever its counter.
+fn admissions(cb: &[u8]) {
     admitted(b"CB after 200", 0xCB, cb, 200, 0);
     admitted(b"CB after 22", 0xCB, cb, 22, 0);
     admitted(b"CB after 21", 0xCB, cb, 21, 7);
     admitted(b"CB after 202", 0xCB, cb, 202, 7);
     admitted(b"CB as D3 after 202", 0xD3, cb, 202, 6);
-    let proof = b"09 11 10 00 00 00 C9 D6 A8 C2 A5 3B 23 1E 09 82 FF 81 9C";
+}
+
+// The proof in it, 201: right, with an inner counter not allowed, and over another challenge.
+fn proofs(proof: &[u8]) {
     proved(b"proof of H", HAN, METER_CHALLENGE, 200, 202, proof, 1);
     proved(
         b"proof of H after 201",
@@ -104,7 +115,10 @@ fn challenge() {
         proof,
         0,
     );
-    answered();
+}
+
+// The answer to a wrong proof.
+fn wrong_answered() {
     closed(
         b"CF to a wrong proof, closed",
         0xCF,
