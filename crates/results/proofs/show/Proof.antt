@@ -8,14 +8,14 @@ use Rattle.results.proofs.show.Statement.{statement}
 use Rattle.results.proofs.show.Tie as tie
 
 data-size-requires : tie.Need-data-size-requires
-data-size-requires c κs = 
+data-size-requires c κs =
     let k = c .before .before in
     let s = k .before .before in
     (s .pre .0, c .attribute-data .ensures .within _ (rw (k .p .given .1) at (s .pre .1)))
 
 returns : tie.Need-returns
 unfolding bodyOf
-returns c = 
+returns c =
     let t = c .before .before in
     let k = t .before .before in
     let a = k .before .before .args in
@@ -23,7 +23,7 @@ returns c =
 
 returns-2 : tie.Need-returns-2
 unfolding bodyOf
-returns-2 c = 
+returns-2 c =
     let t = c .before .before in
     let k = t .before .before in
     let s = k .before .before in
