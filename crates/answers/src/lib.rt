@@ -1,0 +1,196 @@
+// The body's answer to an opened request, written into the reply buffer as a plain APDU, and the body afterwards. A writer
+// requires room for its bytes; what is to be written, and how long it is, was decided before the first byte.
+use body::BodyState;
+use cosem::Asked;
+use cosem::Wanted;
+use model::Client;
+use objects::Argument;
+use objects::Found;
+use objects::Query;
+use objects::Selector;
+use results::Outcome;
+ghost use mathlib.Core.Path.{_≡_};
+ghost use mathlib.Core.Bool.{true};
+ghost use mathlib.Core.List.{[], _∷_};
+ghost use Prim.Native.Nat.{_+_, _≤_};
+ghost use lib.ListN.{length};
+ghost use Rattle.wire.specs.Wrote.{Wrote};
+ghost use Rattle.model.specs.Limits.{longestSent, textRoom};
+ghost use Rattle.model.specs.Objects.{action, answered, get, turned};
+ghost use Rattle.cosem.specs.Requests.{requested};
+ghost use Rattle.body.specs.View.{bodyOf, bodySound};
+ghost use Rattle.objects.specs.Meanings.{foundAs, requestAs};
+ghost use Rattle.objects.specs.Picks.{parameterIn, selectionIn};
+ghost use Rattle.answers.specs.Promise.{Turns};
+
+mod data;
+mod rows;
+
+pub use data::put_data;
+
+// The number of the refusal, or 0, the place after the answer, and the body.
+pub struct Answered {
+    pub refusal: u8,
+    pub next: usize,
+    pub body: BodyState,
+}
+
+// The answer to what a client asked with this APDU.
+pub fn answer(
+    body: BodyState,
+    client: Client,
+    selective: bool,
+    apdu: &[u8],
+    asked: Asked,
+    out: &mut [u8],
+    at: usize,
+) -> Answered
+    requires { ⌜ (bodySound (bodyOf body) ≡ true) × (at + textRoom longestSent ≤ length (now out)) ⌝ }
+    ensures { λ r. ⌜ Turns (turned (requested client selective (now (apdu .entry)) asked) (bodyOf body)) (now (out .entry)) at (now (out .exit)) r ⌝ }
+{
+    let name = cosem::name_in(apdu);
+    let query = Query {
+        client,
+        invoke: asked.invoke,
+        selective,
+        class: asked.class,
+        name,
+    };
+    let registers = body.registers;
+    let found = objects::find(client, name, registers);
+    let wanted = asked.wanted;
+    match wanted {
+        Wanted::Read { attribute } => answer_get(
+            body,
+            found,
+            query,
+            attribute,
+            Selector::All,
+            apdu,
+            out,
+            at,
+        ),
+        Wanted::ReadSelected {
+            attribute,
+            selector,
+            at: value,
+        } => answer_get(
+            body,
+            found,
+            query,
+            attribute,
+            Selector::Selected {
+                selector,
+                at: value,
+            },
+            apdu,
+            out,
+            at,
+        ),
+        Wanted::Invoke { method } => answer_action(
+            body,
+            found,
+            query,
+            method,
+            Argument::Absent,
+            apdu,
+            out,
+            at,
+        ),
+        Wanted::InvokeWith { method, at: value } => answer_action(
+            body,
+            found,
+            query,
+            method,
+            Argument::Present(value),
+            apdu,
+            out,
+            at,
+        ),
+    }
+}
+
+fn answer_get(
+    body: BodyState,
+    found: Found,
+    query: Query,
+    attribute: u8,
+    selector: Selector,
+    apdu: &[u8],
+    out: &mut [u8],
+    at: usize,
+) -> Answered
+    requires { ⌜ (bodySound (bodyOf body) ≡ true) × (at + textRoom longestSent ≤ length (now out)) ⌝ }
+    ensures { λ r. ⌜ Turns (answered (requestAs query (get attribute (selectionIn (now (apdu .entry)) selector))) (bodyOf body) (foundAs (query .name) found) (get attribute (selectionIn (now (apdu .entry)) selector))) (now (out .entry)) at (now (out .exit)) r ⌝ }
+{
+    let o = results::read_attribute(body, found, query, attribute, selector, apdu);
+    match o {
+        Outcome::Granted(d) => {
+            let a = put_head(out, at, 0xC4, query.invoke, 0x00);
+            let name = query.name;
+            let b = put_data(out, a, d, name, body);
+            Answered {
+                refusal: 0,
+                next: b,
+                body,
+            }
+        }
+        Outcome::Denied(code) => {
+            let a = put_head(out, at, 0xC4, query.invoke, 0x01);
+            let b = wire::put(out, a, code);
+            Answered {
+                refusal: 13,
+                next: b,
+                body,
+            }
+        }
+    }
+}
+
+fn answer_action(
+    body: BodyState,
+    found: Found,
+    query: Query,
+    method: u8,
+    argument: Argument,
+    apdu: &[u8],
+    out: &mut [u8],
+    at: usize,
+) -> Answered
+    requires { ⌜ (bodySound (bodyOf body) ≡ true) × (at + textRoom longestSent ≤ length (now out)) ⌝ }
+    ensures { λ r. ⌜ Turns (answered (requestAs query (action method (parameterIn (now (apdu .entry)) argument))) (bodyOf body) (foundAs (query .name) found) (action method (parameterIn (now (apdu .entry)) argument))) (now (out .entry)) at (now (out .exit)) r ⌝ }
+{
+    let o = results::invoke_method(found, query, method, argument, apdu);
+    match o {
+        Outcome::Granted(_) => {
+            let a = put_head(out, at, 0xC7, query.invoke, 0x00);
+            let b = wire::put(out, a, 0x00);
+            let next = results::after_method(body, found);
+            Answered {
+                refusal: 0,
+                next: b,
+                body: next,
+            }
+        }
+        Outcome::Denied(code) => {
+            let a = put_head(out, at, 0xC7, query.invoke, code);
+            let b = wire::put(out, a, 0x00);
+            Answered {
+                refusal: 13,
+                next: b,
+                body,
+            }
+        }
+    }
+}
+
+// The four bytes that every answer begins with.
+fn put_head(out: &mut [u8], at: usize, tag: u8, invoke: u8, fourth: u8) -> usize
+    requires { ⌜ at + 4 ≤ length (now out) ⌝ }
+    ensures { λ r. ⌜ Wrote (now (out .entry)) at (now (out .exit)) r (tag ∷ 0x01 ∷ invoke ∷ fourth ∷ []) ⌝ }
+{
+    let a = wire::put(out, at, tag);
+    let b = wire::put(out, a, 0x01);
+    let c = wire::put(out, b, invoke);
+    wire::put(out, c, fourth)
+}
