@@ -14,7 +14,7 @@ use Rattle.hdlc.specs.Tests.{replyLlc}
 use Rattle.hdlc.proofs.LayoutLaws.{length-full}
 use Rattle.envelope.specs.Layout.{sealedEnvelope}
 use Rattle.envelope.proofs.CloseLaws.{length-envelope}
-use Rattle.protocol.specs.Clients.{keysOf}
+use Rattle.protocol.specs.Clients.{dedicatedKeys}
 use Rattle.protocol.specs.Decide.{answerTag, around, seal, p2}
 
 -- the bytes around an answer of n bytes: none for V, an envelope for H
@@ -25,9 +25,9 @@ length-around : (l : Line) (w : Wrap) (text : List ℕ) → length (around l w t
 unfolding around aroundLength
 length-around l w text = go (eqb (w .tag) 0xC0)
   where
-    go : (b : Bool) → length (cond b text (sealedEnvelope (keysOf [] (w .ak) l) (l .title) (answerTag (w .tag)) (l .han .counters .sent) text)) ≡ cond b (length text) (envelopeLength (length text))
+    go : (b : Bool) → length (cond b text (sealedEnvelope (dedicatedKeys (w .ak) l) (l .title) (answerTag (w .tag)) (l .han .counters .sent) text)) ≡ cond b (length text) (envelopeLength (length text))
     go true = refl
-    go false = length-envelope (keysOf [] (w .ak) l) (l .title) (answerTag (w .tag)) (l .han .counters .sent) text
+    go false = length-envelope (dedicatedKeys (w .ak) l) (l .title) (answerTag (w .tag)) (l .han .counters .sent) text
 
 pub length-seal : (l : Line) (w : Wrap) (text : List ℕ) → length (seal l w text) ≡ aroundLength w (length text) + 14
 unfolding seal

@@ -11,7 +11,6 @@ use Rattle.model.specs.declared.Counters.{Counters}
 use Rattle.model.specs.Services.{offered, common}
 use Rattle.model.specs.State.{Association, none, pending, associated, Peer, Line}
 use Rattle.model.specs.Soundness.{knownKind, onLink, agreedWithin, kindsKnown, linksStand, servicesOffered}
-use Rattle.model.specs.Calls.{Lent}
 use Rattle.model.specs.Archive.{soundLine, lineAfter, KeepsLines}
 use Rattle.model.proofs.ListLaws.{both, both-true}
 use borrow.Author.Tests.{not-false}
@@ -35,13 +34,13 @@ use Rattle.acse.specs.declared.InitiateRequest.the-variants.{Accepted, Departs 
 use Rattle.acse.specs.Clients.{ciphers}
 use Rattle.acse.specs.Initiate.{readRequest}
 use Rattle.acse.specs.Aarq.{plainAarq, cipheredAarq, readAarq}
-use Rattle.acse.proofs.ServiceLaws.{common-within}
 use Rattle.acse.specs.Pieces.{isLaid}
+use Rattle.acse.proofs.ServiceLaws.{common-within}
 use Rattle.envelope.specs.Opening.{Opened, fails, opens, opened}
-use Rattle.envelope.specs.Challenge.{rightProof}
-use Rattle.protocol.specs.Clients.{peer, withPeer, linked, associates, withAssociation, withCounters, agreedIn, keyIn, keysOf, permitted, bitAgreed, isUnknown}
+use Rattle.protocol.specs.declared.Secrets.{Secrets}
+use Rattle.protocol.specs.Clients.{peer, withPeer, linked, associates, withAssociation, withCounters, agreedIn, keyIn, lentKeys, dedicatedKeys, isPending, permitted, bitAgreed, isUnknown}
 use Rattle.protocol.specs.Rulings.{Ruling, decision}
-use Rattle.protocol.specs.Decide.{heldByP5, linkUp, linkDown, acceptedPlain, acceptedCiphered, initiated, enclosed, associating, released, asked, askedInside, isChallenge, proofIn, meterChallenge, proved, disproved, challenged, answeredChallenge, admitted, byTag, conversed, carried, heard, ruled, decide, p2}
+use Rattle.protocol.specs.Decide.{heldByP5, linkUp, linkDown, acceptedPlain, acceptedCiphered, initiated, enclosed, associating, released, asked, askedInside, readInside, isChallenge, provesItself, proved, disproved, challenged, answeredChallenge, admitted, challengeEnclosed, requestEnclosed, byTag, conversed, carried, heard, secretsOf, ruled, decide, p2}
 
 -- a client's part of the line is sound
 record Good (c : Client) (p : Peer) : Type 0 where
@@ -92,10 +91,6 @@ good-ended : (c : Client) (p : Peer) → Good c (withAssociation none p)
 good-ended Verification p = record { kind = refl; link = or-true (p .up); services = refl }
 good-ended Han p = record { kind = refl; link = or-true (p .up); services = refl }
 
-associated-kind : (c : Client) (a k : List ℕ) → knownKind c (associated a k) ≡ true
-associated-kind Verification a k = refl
-associated-kind Han a k = refl
-
 module _ (l : Line) (s : soundLine l ≡ true) where
   abbrev Keeps : Ruling → Type 0
   Keeps r = soundLine (lineAfter (decision r)) ≡ true
@@ -118,97 +113,109 @@ module _ (l : Line) (s : soundLine l ≡ true) where
   unfolding linkDown
   keeps-down c h = keeps-if (peer c l .up) _ _ (λ _. with-peer c (linked false (peer c l)) l (good-linked c false (peer c l)) s) (λ _. s)
 
-  module _ (a : Lent) (c : Client) (h : Head) (up : peer c l .up ≡ true) where
-    keeps-plain : (proposed : List ℕ) → Keeps (acceptedPlain l c h proposed)
-    unfolding acceptedPlain
-    keeps-plain proposed =
-        with-peer c (withAssociation (associated (common proposed (offered c)) []) (peer c l)) l
-        (good-standing c (associated (common proposed (offered c)) []) (peer c l) (associated-kind c _ _) (common-within proposed (offered c)) up) s
+  keeps-plain : (h : Head) (proposed : List ℕ) → l .verification .up ≡ true → Keeps (acceptedPlain l h proposed)
+  unfolding acceptedPlain
+  keeps-plain h proposed up =
+      let x = associated (common proposed (offered Verification)) [] in
+      with-peer Verification (withAssociation x (l .verification)) l
+      (good-standing Verification x (l .verification) refl (common-within proposed (offered Verification)) up) s
 
-    keeps-ciphered : (client key proposed : List ℕ) (counter : ℕ) → ciphers c ≡ true → Keeps (acceptedCiphered l a c h client key proposed counter)
+  -- H's envelopes
+  module _ (a : Secrets) (h : Head) where
+    keeps-ciphered : (client key proposed : List ℕ) (counter : ℕ) → l .han .peer .up ≡ true → Keeps (acceptedCiphered l a h client key proposed counter)
     unfolding acceptedCiphered
-    keeps-ciphered client key proposed counter k =
-        with-peer c (withAssociation (pending (common proposed (offered c)) key client (a .challenge)) (peer c l)) l
-        (good-standing c (pending (common proposed (offered c)) key client (a .challenge)) (peer c l) (pending-kind c k) (common-within proposed (offered c)) up) s
-      where
-        pending-kind : (c : Client) → ciphers c ≡ true → knownKind c (pending (common proposed (offered c)) key client (a .challenge)) ≡ true
-        pending-kind Verification e = absurd (false≢true e)
-        pending-kind Han e = refl
+    keeps-ciphered client key proposed counter up =
+        let x = pending (common proposed (offered Han)) key client (a .challenge) in
+        with-peer Han (withAssociation x (l .han .peer)) l (good-standing Han x (l .han .peer) refl (common-within proposed (offered Han)) up) s
 
+    keeps-initiated : (client text : List ℕ) (counter : ℕ) → l .han .peer .up ≡ true → (r : InitiateRequest) → Keeps (initiated l a h client text counter r)
+    keeps-initiated client text counter up (Accepted key services) = keeps-ciphered client (take 16 (drop key text)) (take 3 (drop services text)) counter up
+    keeps-initiated client text counter up RequestDeparts = s
+
+    keeps-enclosed : (client : List ℕ) → l .han .peer .up ≡ true → (o : Opened) → Keeps (enclosed l a h client o)
+    keeps-enclosed client up fails = s
+    keeps-enclosed client up (opens counter text) = keeps-initiated client text counter up (readRequest text)
+
+    keeps-inside : (tag counter : ℕ) (text : List ℕ) (r : Reading) → Keeps (askedInside l a h tag counter text r)
+    keeps-inside tag counter text Malformed = s
+    keeps-inside tag counter text (Asks q) = s
+
+    keeps-admitted : (o : Opened) (f : (counter : ℕ) → List ℕ → Ruling) → ((counter : ℕ) (text : List ℕ) → Keeps (f counter text)) → Keeps (admitted l o f)
+    keeps-admitted fails f k = s
+    keeps-admitted (opens counter text) f k = keeps-if (inWindow (l .han .counters .accepted) counter) _ _ (λ _. k counter text) (λ _. ends Han)
+
+    keeps-request : (tag : ℕ) (apdu : List ℕ) → Keeps (requestEnclosed l a h tag apdu)
+    unfolding requestEnclosed
+    keeps-request tag apdu =
+        keeps-admitted (opened (dedicatedKeys (a .ak) l) (l .han .peer .title) tag apdu) _ (λ counter text. keeps-inside tag counter text (readInside tag text))
+
+    keeps-disproved : (invoke counter : ℕ) → Keeps (disproved l a h invoke counter)
+    unfolding disproved
+    keeps-disproved invoke counter = ends Han
+
+    -- while pending, the link is up and what was agreed lies within what is offered
+    module _ (p : isPending (l .han .peer .association) ≡ true) where
+      pending-stands : (x : Association) → isPending x ≡ true → agreedWithin (offered Han) x ≡ true → agreedWithin (offered Han) (associated (agreedIn x) (keyIn x)) ≡ true
+      pending-stands none e w = absurd (false≢true e)
+      pending-stands (pending ag k d m) e w = w
+      pending-stands (associated ag k) e w = absurd (false≢true e)
+
+      keeps-proved : (invoke counter : ℕ) → l .han .peer .up ≡ true → Keeps (proved l a h invoke counter)
+      unfolding proved
+      keeps-proved invoke counter up =
+          let x = associated (agreedIn (l .han .peer .association)) (keyIn (l .han .peer .association)) in
+          with-peer Han (withAssociation x (l .han .peer)) l
+          (good-standing Han x (l .han .peer) refl (pending-stands (l .han .peer .association) p (good Han l s .services)) up) s
+
+      keeps-challenged : l .han .peer .up ≡ true → (counter : ℕ) (text : List ℕ) (q : Asked) → Keeps (challenged l a h counter text q)
+      unfolding challenged
+      keeps-challenged up counter text q =
+          keeps-if (not (isChallenge text q)) _ _ (λ _. s) λ _.
+          keeps-if (provesItself l a counter text q) _ _ (λ _. keeps-proved (q .invoke) counter up) (λ _. keeps-disproved (q .invoke) counter)
+
+      keeps-answered : l .han .peer .up ≡ true → (counter : ℕ) (text : List ℕ) (r : Reading) → Keeps (answeredChallenge l a h counter text r)
+      keeps-answered up counter text Malformed = s
+      keeps-answered up counter text (Asks q) = keeps-challenged up counter text q
+
+      keeps-challenge : l .han .peer .up ≡ true → (apdu : List ℕ) → Keeps (challengeEnclosed l a h apdu)
+      unfolding challengeEnclosed
+      keeps-challenge up apdu =
+          keeps-admitted (opened (lentKeys a) (l .han .peer .title) 0xCB apdu) _ (λ counter text. keeps-answered up counter text (readAction text))
+
+  module _ (a : Secrets) (c : Client) (h : Head) (up : peer c l .up ≡ true) where
     keeps-released : (apdu : List ℕ) → Keeps (released l c h apdu)
     unfolding released
     keeps-released apdu = keeps-if (isRelease apdu) _ _ (λ _. ends c) (λ _. s)
-
-    keeps-disproved : (invoke counter : ℕ) → Keeps (disproved l a c h invoke counter)
-    unfolding disproved
-    keeps-disproved invoke counter = ends c
-
-    keeps-proved : (invoke counter : ℕ) → agreedWithin (offered c) (associated (agreedIn (peer c l .association)) []) ≡ true → Keeps (proved l a c h invoke counter)
-    unfolding proved
-    keeps-proved invoke counter w =
-        with-peer c (withAssociation (associated (agreedIn (peer c l .association)) (keyIn (peer c l .association))) (peer c l)) l
-        (good-standing c (associated (agreedIn (peer c l .association)) (keyIn (peer c l .association))) (peer c l) (associated-kind c _ _) w up) s
-
-    keeps-initiated : (client text : List ℕ) (counter : ℕ) → ciphers c ≡ true → (r : InitiateRequest) → Keeps (initiated l a c h client text counter r)
-    keeps-initiated client text counter k (Accepted key services) = keeps-ciphered client (take 16 (drop key text)) (take 3 (drop services text)) counter k
-    keeps-initiated client text counter k RequestDeparts = s
-
-    keeps-enclosed : (client : List ℕ) → ciphers c ≡ true → (o : Opened) → Keeps (enclosed l a c h client o)
-    keeps-enclosed client k fails = s
-    keeps-enclosed client k (opens counter text) = keeps-initiated client text counter k (readRequest text)
-
-    -- only of a client that ciphers an AARQ is read as one with an envelope
-    read-ciphered : (apdu : List ℕ) {d e : ℕ} → readAarq apdu c (peer c l .title) ≡ Ciphered d e → ciphers c ≡ true
-    unfolding readAarq
-    read-ciphered apdu {d} {e} q = go (ciphers c) refl q
-      where
-        plain : (b : Bool) {d e : ℕ} → cond b (Plain 47) Departs ≡ Ciphered d e → ⊥
-        plain true x = let z : _≡_ {A = ℕ} 0 1 = cc in omega arith
-        plain false x = let z : _≡_ {A = ℕ} 0 1 = cc in omega arith
-
-        go : (b : Bool) → ciphers c ≡ b
-            → cond b (cond (isLaid (cipheredAarq c (peer c l .title)) apdu 0) (Ciphered 42 54) Departs) (cond (isLaid (plainAarq c (peer c l .title)) apdu 0) (Plain 47) Departs) ≡ Ciphered d e
-            → ciphers c ≡ true
-        go true i x = i
-        go false i x = absurd (plain (isLaid (plainAarq c (peer c l .title)) apdu 0) x)
-
-    keeps-associating : (apdu : List ℕ) (r : ReadAarq) → readAarq apdu c (peer c l .title) ≡ r → Keeps (associating l a c h apdu r)
-    keeps-associating apdu (Plain p) q = keeps-plain (take 3 (drop p apdu))
-    keeps-associating apdu (Ciphered d e) q =
-        keeps-enclosed (take 8 (drop d apdu)) (read-ciphered apdu q) (opened (keysOf (a .guk) (a .ak) l) (peer c l .title) 0x21 (drop e apdu))
-    keeps-associating apdu Departs q = s
 
     keeps-asked : (apdu : List ℕ) (r : Reading) → Keeps (asked l a c h apdu r)
     keeps-asked apdu Malformed = s
     keeps-asked apdu (Asks q) = s
 
-    keeps-inside : (tag counter : ℕ) (text : List ℕ) (r : Reading) → Keeps (askedInside l a c h tag counter text r)
-    keeps-inside tag counter text Malformed = s
-    keeps-inside tag counter text (Asks q) = s
-
-    keeps-admitted : (o : Opened) (f : (counter : ℕ) → List ℕ → Ruling) → ((counter : ℕ) (text : List ℕ) → Keeps (f counter text)) → Keeps (admitted l c o f)
-    keeps-admitted fails f k = s
-    keeps-admitted (opens counter text) f k = keeps-if (inWindow (l .han .counters .accepted) counter) _ _ (λ _. k counter text) (λ _. ends c)
-
-    -- while pending, what was agreed lies within what is offered
-    pending-agreed : permitted c (peer c l .association) GloActionRequest ≡ true → agreedWithin (offered c) (associated (agreedIn (peer c l .association)) []) ≡ true
-    pending-agreed p = go (peer c l .association) p (good c l s .services)
+    -- an AARQ is read as plain from V alone, and as ciphered from H alone
+    plain-from : (x : Client) (t apdu : List ℕ) {p : ℕ} → readAarq apdu x t ≡ Plain p → peer x l .up ≡ true → l .verification .up ≡ true
+    unfolding readAarq
+    plain-from Verification t apdu q u = u
+    plain-from Han t apdu {p} q u = absurd (go (isLaid (cipheredAarq Han t) apdu 0) q)
       where
-        go : (x : Association) → permitted c x GloActionRequest ≡ true → agreedWithin (offered c) x ≡ true → agreedWithin (offered c) (associated (agreedIn x) []) ≡ true
-        go none e w = absurd (false≢true e)
-        go (pending ag k d m) e w = w
-        go (associated ag k) e w = absurd (false≢true e)
+        go : (b : Bool) → cond b (Ciphered 42 54) Departs ≡ Plain p → ⊥
+        go true e = let z : _≡_ {A = ℕ} 0 1 = cc in omega arith
+        go false e = let z : _≡_ {A = ℕ} 0 1 = cc in omega arith
 
-    keeps-challenged : permitted c (peer c l .association) GloActionRequest ≡ true → (counter : ℕ) (text : List ℕ) (q : Asked) → Keeps (challenged l a c h counter text q)
-    unfolding challenged
-    keeps-challenged p counter text q =
-        keeps-if (not (isChallenge text q)) _ _ (λ _. s) λ _.
-        keeps-if (rightProof (keysOf (a .guk) (a .ak) l) (peer c l .title) (meterChallenge (peer c l .association)) (l .han .counters .accepted) counter (proofIn text (q .wanted))) _ _
-        (λ _. keeps-proved (q .invoke) counter (pending-agreed p)) (λ _. keeps-disproved (q .invoke) counter)
+    ciphered-from : (x : Client) (t apdu : List ℕ) {d e : ℕ} → readAarq apdu x t ≡ Ciphered d e → peer x l .up ≡ true → l .han .peer .up ≡ true
+    unfolding readAarq
+    ciphered-from Han t apdu q u = u
+    ciphered-from Verification t apdu {d} {e} q u = absurd (go (isLaid (plainAarq Verification t) apdu 0) q)
+      where
+        go : (b : Bool) → cond b (Plain 47) Departs ≡ Ciphered d e → ⊥
+        go true e = let z : _≡_ {A = ℕ} 0 1 = cc in omega arith
+        go false e = let z : _≡_ {A = ℕ} 0 1 = cc in omega arith
 
-    keeps-answered : permitted c (peer c l .association) GloActionRequest ≡ true → (counter : ℕ) (text : List ℕ) (r : Reading) → Keeps (answeredChallenge l a c h counter text r)
-    keeps-answered p counter text Malformed = s
-    keeps-answered p counter text (Asks q) = keeps-challenged p counter text q
+    keeps-associating : (apdu : List ℕ) (r : ReadAarq) → readAarq apdu c (peer c l .title) ≡ r → Keeps (associating l a c h apdu r)
+    keeps-associating apdu (Plain p) q =
+        keeps-plain h (take 3 (drop p apdu)) (plain-from c (peer c l .title) apdu q up)
+    keeps-associating apdu (Ciphered d e) q =
+        keeps-enclosed a h (take 8 (drop d apdu)) (ciphered-from c (peer c l .title) apdu q up) (opened (lentKeys a) (l .han .peer .title) 0x21 (drop e apdu))
+    keeps-associating apdu Departs q = s
 
     keeps-tag : (apdu : List ℕ) (t : Tag) → permitted c (peer c l .association) t ≡ true → Keeps (byTag l a c h apdu t)
     keeps-tag apdu Aarq p = keeps-associating apdu (readAarq apdu c (peer c l .title)) refl
@@ -216,13 +223,14 @@ module _ (l : Line) (s : soundLine l ≡ true) where
     keeps-tag apdu GetRequest p = keeps-asked apdu (readGet apdu)
     keeps-tag apdu SetRequest p = s
     keeps-tag apdu ActionRequest p = s
-    keeps-tag apdu GloActionRequest p =
-        keeps-admitted (opened (keysOf (a .guk) (a .ak) l) (peer c l .title) 0xCB apdu) _ (λ counter text. keeps-answered p counter text (readAction text))
-    keeps-tag apdu DedGetRequest p =
-        keeps-admitted (opened (keysOf (a .guk) (a .ak) l) (peer c l .title) 0xD0 apdu) _ (λ counter text. keeps-inside 0xD0 counter text (readGet text))
+    keeps-tag apdu GloActionRequest p = go c up (both (isPending (peer c l .association)) (ciphers c) p)
+      where
+        go : (x : Client) → peer x l .up ≡ true → (isPending (peer x l .association) ≡ true) × (ciphers x ≡ true) → Keeps (challengeEnclosed l a h apdu)
+        go Verification u e = absurd (false≢true (e .1))
+        go Han u e = keeps-challenge a h (e .0) u apdu
+    keeps-tag apdu DedGetRequest p = keeps-request a h 0xD0 apdu
     keeps-tag apdu DedSetRequest p = s
-    keeps-tag apdu DedActionRequest p =
-        keeps-admitted (opened (keysOf (a .guk) (a .ak) l) (peer c l .title) 0xD3 apdu) _ (λ counter text. keeps-inside 0xD3 counter text (readAction text))
+    keeps-tag apdu DedActionRequest p = keeps-request a h 0xD3 apdu
     keeps-tag apdu Unknown p = s
 
     keeps-conversed : (apdu : List ℕ) (t : Tag) → Keeps (conversed l a c h apdu t)
@@ -233,17 +241,17 @@ module _ (l : Line) (s : soundLine l ≡ true) where
         keeps-if (not (bitAgreed (agreedIn (peer c l .association)) t)) _ _ (λ _. s) λ _.
         keeps-tag apdu t (not-false _ p)
 
-  keeps-carried : (a : Lent) (c : Client) (h : Head) (apdu : List ℕ) → Keeps (carried l a c h apdu)
+  keeps-carried : (a : Secrets) (c : Client) (h : Head) (apdu : List ℕ) → Keeps (carried l a c h apdu)
   unfolding carried
   keeps-carried a c h apdu = keeps-if (peer c l .up) _ _ (λ up. keeps-conversed a c h up apdu (tagIn apdu)) (λ _. s)
 
-  keeps-heard : (a : Lent) (f : Frame) → Keeps (heard l a f)
-  keeps-heard a (Unanswered t) = s
-  keeps-heard a (Rejected t h) = s
-  keeps-heard a (LinkUp c h i) = keeps-up c h i
-  keeps-heard a (LinkDown c h) = keeps-down c h
-  keeps-heard a (Apdu c h from to) = keeps-carried a c h (part from to (a .received))
+  keeps-heard : (a : Secrets) (f : List ℕ) (x : Frame) → Keeps (heard l a f x)
+  keeps-heard a f (Unanswered t) = s
+  keeps-heard a f (Rejected t h) = s
+  keeps-heard a f (LinkUp c h i) = keeps-up c h i
+  keeps-heard a f (LinkDown c h) = keeps-down c h
+  keeps-heard a f (Apdu c h from to) = keeps-carried a c h (part from to f)
 
 pub keeps-lines : KeepsLines p2
 unfolding decide ruled
-keeps-lines l a s = keeps-heard l s a (readFrame (a .received))
+keeps-lines l a s = keeps-heard l s (secretsOf a) (a .received) (readFrame (a .received))

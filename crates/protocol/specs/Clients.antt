@@ -1,17 +1,20 @@
--- The clients on the line: each one's link and association, what its association permits, and the keys of one that ciphers
--- (document 01, "The association").
-use mathlib.Core.Bool.{Bool, true, false, not}
-use mathlib.Core.List.{List, []}
+-- The clients on the line: each one's link and association, what an association holds and permits, and the keys of the one
+-- that ciphers (document 01, "The association").
+use mathlib.Core.Bool.{Bool, true, false, not, _&&_}
+use mathlib.Core.List.{List}
 use Prim.Native.Nat.{ℕ}
+use lib.ListN.{replicate}
 use Rattle.model.specs.declared.Client.{Client}
 use Rattle.model.specs.declared.Client.the-variants.{Verification, Han}
 use Rattle.model.specs.declared.Counters.{Counters}
 use Rattle.model.specs.Services.{within, getService, actionService, selectiveAccess}
 use Rattle.model.specs.State.{Association, none, pending, associated, Peer, Line}
+use Rattle.model.specs.Soundness.{isNone}
 use Rattle.cosem.specs.declared.Tag.{Tag}
 use Rattle.cosem.specs.declared.Tag.the-variants.{Aarq, Rlrq, GetRequest, SetRequest, ActionRequest, GloActionRequest, DedGetRequest, DedSetRequest, DedActionRequest, Unknown}
 use Rattle.acse.specs.Clients.{ciphers}
 use Rattle.envelope.specs.declared.Keys.{Keys}
+use Rattle.protocol.specs.declared.Secrets.{Secrets}
 
 -- A client's part of the line.
 
@@ -40,60 +43,67 @@ abbrev pub withCounters : Counters → Line → Line
 withCounters n l =
     record { title = l .title; verification = l .verification; han = record { peer = l .han .peer; counters = n }; p5 = l .p5 }
 
--- What an association holds.
+-- What an association holds; zeros where it holds no such bytes.
 
 abbrev pub agreedIn : Association → List ℕ
-agreedIn none = []
+agreedIn none = replicate 3 0
 agreedIn (pending a k c s) = a
 agreedIn (associated a k) = a
 
 abbrev pub keyIn : Association → List ℕ
-keyIn none = []
+keyIn none = replicate 16 0
 keyIn (pending a k c s) = k
 keyIn (associated a k) = k
 
--- the keys of H, the one client that ciphers: those lent, and the dedicated key of its association
-abbrev pub keysOf : (guk ak : List ℕ) → Line → Keys
-keysOf guk ak l = record { guk = guk; ak = ak; dedicated = keyIn (l .han .peer .association) }
+-- H's challenge, and the meter's
+abbrev pub clientChallenge : Association → List ℕ
+clientChallenge none = replicate 8 0
+clientChallenge (pending a k c s) = c
+clientChallenge (associated a k) = replicate 8 0
+
+abbrev pub meterChallenge : Association → List ℕ
+meterChallenge none = replicate 8 0
+meterChallenge (pending a k c s) = s
+meterChallenge (associated a k) = replicate 8 0
 
 abbrev pub selectiveIn : Client → Line → Bool
 selectiveIn c l = within selectiveAccess (agreedIn (peer c l .association))
 
+-- The keys of H, the one client that ciphers; zeros for a key that has no part.
+
+-- "GUK for 21, 28, CB, CF"
+abbrev pub lentKeys : Secrets → Keys
+lentKeys a = record { guk = a .guk; ak = a .ak; dedicated = replicate 16 0 }
+
+-- "the dedicated key for D0, D3 (requests) and D4, D7 (answers)"
+abbrev pub dedicatedKeys : (ak : List ℕ) → Line → Keys
+dedicatedKeys ak l = record { guk = replicate 16 0; ak = ak; dedicated = keyIn (l .han .peer .association) }
+
 -- What is permitted.
+
+abbrev pub isPending : Association → Bool
+isPending none = false
+isPending (pending a k c s) = true
+isPending (associated a k) = false
+
+abbrev pub isAssociated : Association → Bool
+isAssociated none = false
+isAssociated (pending a k c s) = false
+isAssociated (associated a k) = true
 
 -- "Permitted: AARQ (60) in none, RLRQ (62) in the others; when associated GET (V: C0, H: D0) and for H ACTION (D3); while
 -- pending CB"
 abbrev pub permitted : Client → Association → Tag → Bool
-permitted c none Aarq = true
-permitted c none Rlrq = false
-permitted c none GetRequest = false
-permitted c none SetRequest = false
-permitted c none ActionRequest = false
-permitted c none GloActionRequest = false
-permitted c none DedGetRequest = false
-permitted c none DedSetRequest = false
-permitted c none DedActionRequest = false
-permitted c none Unknown = false
-permitted c (pending a k d s) Aarq = false
-permitted c (pending a k d s) Rlrq = true
-permitted c (pending a k d s) GetRequest = false
-permitted c (pending a k d s) SetRequest = false
-permitted c (pending a k d s) ActionRequest = false
-permitted c (pending a k d s) GloActionRequest = true
-permitted c (pending a k d s) DedGetRequest = false
-permitted c (pending a k d s) DedSetRequest = false
-permitted c (pending a k d s) DedActionRequest = false
-permitted c (pending a k d s) Unknown = false
-permitted c (associated a k) Aarq = false
-permitted c (associated a k) Rlrq = true
-permitted c (associated a k) GetRequest = not (ciphers c)
-permitted c (associated a k) SetRequest = false
-permitted c (associated a k) ActionRequest = false
-permitted c (associated a k) GloActionRequest = false
-permitted c (associated a k) DedGetRequest = ciphers c
-permitted c (associated a k) DedSetRequest = false
-permitted c (associated a k) DedActionRequest = ciphers c
-permitted c (associated a k) Unknown = false
+permitted c x Aarq = isNone x
+permitted c x Rlrq = not (isNone x)
+permitted c x GetRequest = isAssociated x && not (ciphers c)
+permitted c x SetRequest = false
+permitted c x ActionRequest = false
+permitted c x GloActionRequest = isPending x && ciphers c
+permitted c x DedGetRequest = isAssociated x && ciphers c
+permitted c x DedSetRequest = false
+permitted c x DedActionRequest = isAssociated x && ciphers c
+permitted c x Unknown = false
 
 -- "GET or ACTION without its agreed bit"; the other tags need none
 abbrev pub bitAgreed : List ℕ → Tag → Bool

@@ -10,7 +10,7 @@ use Rattle.model.specs.declared.Client.{Client}
 use Rattle.model.specs.declared.Client.the-variants.{Verification, Han}
 use Rattle.model.specs.Names.{sameName}
 use Rattle.model.specs.Services.{offered, common}
-use Rattle.model.specs.State.{Association, none, pending, associated, Line}
+use Rattle.model.specs.State.{none, pending, associated, Line}
 use Rattle.model.specs.Objects.{challengeNamed, actionAnswer, denied}
 use Rattle.model.specs.Calls.{Lent, Wrap, Decision, Protocol}
 use Rattle.wire.specs.Reading.{part}
@@ -40,10 +40,12 @@ use Rattle.acse.specs.Aarq.{readAarq}
 use Rattle.acse.specs.Aare.{plainAare, cipheredAareHead, rejectedAare}
 use Rattle.counters.specs.Advance.{taken}
 use Rattle.counters.specs.Window.{inWindow, accepting}
+use Rattle.envelope.specs.declared.Keys.{Keys}
 use Rattle.envelope.specs.Layout.{sealedEnvelope}
 use Rattle.envelope.specs.Opening.{Opened, fails, opens, opened}
 use Rattle.envelope.specs.Challenge.{rightProof, proofValue}
-use Rattle.protocol.specs.Clients.{peer, withPeer, linked, associates, withCounters, agreedIn, keyIn, keysOf, selectiveIn, permitted, bitAgreed, isUnknown}
+use Rattle.protocol.specs.declared.Secrets.{Secrets}
+use Rattle.protocol.specs.Clients.{peer, withPeer, linked, associates, withCounters, agreedIn, keyIn, clientChallenge, meterChallenge, selectiveIn, lentKeys, dedicatedKeys, permitted, bitAgreed, isUnknown}
 use Rattle.protocol.specs.Rulings.{Test, none as noTest, frame, linkUpWithInformation, p5HoldsV, linkDownWhileDown, dataWhileDown, unknownTag, tagNotPermitted, bitNotAgreed, aarqNotAccepted, envelopeUnopened, outsideWindow, malformedApdu, notTheChallenge, wrongProof, nothing, ua, dm, reject, apdu, Ruling, says, asks, decision}
 
 -- Links.
@@ -77,32 +79,34 @@ abbrev pub rejected : Client → Head → Line → Ruling
 rejected c h l = says aarqNotAccepted (apdu h (rejectedAare c)) l
 
 -- "V is then associated": agreed are the services proposed and offered
-unfoldable pub acceptedPlain : Line → Client → Head → (proposed : List ℕ) → Ruling
-acceptedPlain l c h proposed =
-    says noTest (apdu h (plainAare c (l .title) (common proposed (offered c)))) (associates c (associated (common proposed (offered c)) []) l)
+unfoldable pub acceptedPlain : Line → Head → (proposed : List ℕ) → Ruling
+acceptedPlain l h proposed =
+    let agreed = common proposed (offered Verification) in
+    says noTest (apdu h (plainAare Verification (l .title) agreed)) (associates Verification (associated agreed []) l)
 
 -- "H pending": the client's counter becomes the last accepted, the meter's goes one on and is used in the envelope of tag 28
-unfoldable pub acceptedCiphered : Line → Lent → Client → Head → (client key proposed : List ℕ) → (counter : ℕ) → Ruling
-acceptedCiphered l a c h client key proposed counter =
-    let agreed = common proposed (offered c) in
+unfoldable pub acceptedCiphered : Line → Secrets → Head → (client key proposed : List ℕ) → (counter : ℕ) → Ruling
+acceptedCiphered l a h client key proposed counter =
+    let agreed = common proposed (offered Han) in
     let next = taken (accepting (l .han .counters) counter) in
-    let response = sealedEnvelope (keysOf (a .guk) (a .ak) l) (l .title) 0x28 (next .number) (initiateResponse agreed) in
-    says noTest (apdu h (cipheredAareHead c (l .title) (a .challenge) ++ response))
-    (withCounters (next .counters) (associates c (pending agreed key client (a .challenge)) l))
+    let response = sealedEnvelope (lentKeys a) (l .title) 0x28 (next .number) (initiateResponse agreed) in
+    says noTest (apdu h (cipheredAareHead Han (l .title) (a .challenge) ++ response))
+    (withCounters (next .counters) (associates Han (pending agreed key client (a .challenge)) l))
 
 -- by H's opened initiate request
-abbrev pub initiated : Line → Lent → Client → Head → (client text : List ℕ) → (counter : ℕ) → InitiateRequest → Ruling
-initiated l a c h client text counter (Accepted k s) = acceptedCiphered l a c h client (take 16 (drop k text)) (take 3 (drop s text)) counter
-initiated l a c h client text counter RequestDeparts = rejected c h l
+abbrev pub initiated : Line → Secrets → Head → (client text : List ℕ) → (counter : ℕ) → InitiateRequest → Ruling
+initiated l a h client text counter (Accepted k s) = acceptedCiphered l a h client (take 16 (drop k text)) (take 3 (drop s text)) counter
+initiated l a h client text counter RequestDeparts = rejected Han h l
 
-abbrev pub enclosed : Line → Lent → Client → Head → (client : List ℕ) → Opened → Ruling
-enclosed l a c h client fails = rejected c h l
-enclosed l a c h client (opens counter text) = initiated l a c h client text counter (readRequest text)
+abbrev pub enclosed : Line → Secrets → Head → (client : List ℕ) → Opened → Ruling
+enclosed l a h client fails = rejected Han h l
+enclosed l a h client (opens counter text) = initiated l a h client text counter (readRequest text)
 
-abbrev pub associating : Line → Lent → Client → Head → List ℕ → ReadAarq → Ruling
-associating l a c h s (Plain p) = acceptedPlain l c h (take 3 (drop p s))
+-- by the client's AARQ, which is plain from V alone and ciphered from H alone
+abbrev pub associating : Line → Secrets → Client → Head → List ℕ → ReadAarq → Ruling
+associating l a c h s (Plain p) = acceptedPlain l h (take 3 (drop p s))
 associating l a c h s (Ciphered d e) =
-    enclosed l a c h (take 8 (drop d s)) (opened (keysOf (a .guk) (a .ak) l) (peer c l .title) 0x21 (drop e s))
+    enclosed l a h (take 8 (drop d s)) (opened (lentKeys a) (l .han .peer .title) 0x21 (drop e s))
 associating l a c h s Departs = rejected c h l
 
 -- "RLRQ is 62 03 80 01 00, answered 63 03 80 01 00, plain, and the state is none"
@@ -113,13 +117,13 @@ released l c h s =
 -- Requests.
 
 -- what goes around the body's answer: addresses exchanged, the tag received, AK
-abbrev pub wrap : Lent → Head → ℕ → Wrap
-wrap a h tag = record { destination = h .source; source = h .destination; tag = tag; ak = a .ak }
+abbrev pub wrap : (ak : List ℕ) → Head → ℕ → Wrap
+wrap ak h tag = record { destination = h .source; source = h .destination; tag = tag; ak = ak }
 
--- a plain request of V
-abbrev pub asked : Line → Lent → Client → Head → List ℕ → Reading → Ruling
+-- a plain request
+abbrev pub asked : Line → Secrets → Client → Head → List ℕ → Reading → Ruling
 asked l a c h s Malformed = excepted malformedApdu ServiceUnknown h l
-asked l a c h s (Asks q) = asks (requested c (selectiveIn c l) s q) (wrap a h 0xC0) l
+asked l a c h s (Asks q) = asks (requested c (selectiveIn c l) s q) (wrap (a .ak) h 0xC0) l
 
 -- the line after an envelope's counter has become the last accepted, and after the meter's own has gone on besides
 abbrev pub accepted : ℕ → Line → Line
@@ -129,9 +133,14 @@ abbrev pub advanced : Line → Line
 advanced l = withCounters (taken (l .han .counters) .counters) l
 
 -- an opened request of H: its answer will take the meter's next counter, granted or denied
-abbrev pub askedInside : Line → Lent → Client → Head → (tag counter : ℕ) → List ℕ → Reading → Ruling
-askedInside l a c h tag counter text Malformed = excepted malformedApdu ServiceUnknown h (accepted counter l)
-askedInside l a c h tag counter text (Asks q) = asks (requested c (selectiveIn c l) text q) (wrap a h tag) (advanced (accepted counter l))
+abbrev pub askedInside : Line → Secrets → Head → (tag counter : ℕ) → List ℕ → Reading → Ruling
+askedInside l a h tag counter text Malformed = excepted malformedApdu ServiceUnknown h (accepted counter l)
+askedInside l a h tag counter text (Asks q) =
+    asks (requested Han (selectiveIn Han l) text q) (wrap (a .ak) h tag) (advanced (accepted counter l))
+
+-- GET in D0, ACTION in D3
+unfoldable pub readInside : ℕ → List ℕ → Reading
+readInside tag text = cond (eqb tag 0xD0) (readGet text) (readAction text)
 
 -- The challenge.
 
@@ -152,68 +161,72 @@ proofIn text (ReadSelected a k at) = []
 proofIn text (Invoke k) = []
 proofIn text (InvokeWith k at) = drop at text
 
--- what a pending association holds, and [] in any other
-abbrev pub clientChallenge : Association → List ℕ
-clientChallenge none = []
-clientChallenge (pending a k c s) = c
-clientChallenge (associated a k) = []
-
-abbrev pub meterChallenge : Association → List ℕ
-meterChallenge none = []
-meterChallenge (pending a k c s) = s
-meterChallenge (associated a k) = []
+-- the answer to a right proof: the head of an ACTION's answer with data, and the meter's own proof
+unfoldable pub provedText : Keys → (title challenge : List ℕ) → (invoke number : ℕ) → List ℕ
+provedText k title challenge invoke number =
+    (0xC7 ∷ 0x01 ∷ invoke ∷ 0x00 ∷ 0x01 ∷ 0x00 ∷ []) ++ proofValue k title challenge number
 
 -- "the meter answers likewise (CF) over H's challenge and H is associated": the proof takes a counter before its envelope
-unfoldable pub proved : Line → Lent → Client → Head → (invoke counter : ℕ) → Ruling
-proved l a c h invoke counter =
-    let held = peer c l .association in
-    let keys = keysOf (a .guk) (a .ak) l in
+unfoldable pub proved : Line → Secrets → Head → (invoke counter : ℕ) → Ruling
+proved l a h invoke counter =
+    let held = l .han .peer .association in
     let first = taken (accepting (l .han .counters) counter) in
     let second = taken (first .counters) in
-    let text = (0xC7 ∷ 0x01 ∷ invoke ∷ 0x00 ∷ 0x01 ∷ 0x00 ∷ []) ++ proofValue keys (l .title) (clientChallenge held) (first .number) in
-    says noTest (apdu h (sealedEnvelope keys (l .title) 0xCF (second .number) text))
-    (withCounters (second .counters) (associates c (associated (agreedIn held) (keyIn held)) l))
+    let text = provedText (lentKeys a) (l .title) (clientChallenge held) invoke (first .number) in
+    says noTest (apdu h (sealedEnvelope (lentKeys a) (l .title) 0xCF (second .number) text))
+    (withCounters (second .counters) (associates Han (associated (agreedIn held) (keyIn held)) l))
 
 -- "a wrong proof, or any other parameter or none, answers 250 and the state is none"
-unfoldable pub disproved : Line → Lent → Client → Head → (invoke counter : ℕ) → Ruling
-disproved l a c h invoke counter =
-    let keys = keysOf (a .guk) (a .ak) l in
+unfoldable pub disproved : Line → Secrets → Head → (invoke counter : ℕ) → Ruling
+disproved l a h invoke counter =
     let first = taken (accepting (l .han .counters) counter) in
-    says wrongProof (apdu h (sealedEnvelope keys (l .title) 0xCF (first .number) (actionAnswer invoke (denied 250))))
-    (withCounters (first .counters) (associates c none l))
+    says wrongProof (apdu h (sealedEnvelope (lentKeys a) (l .title) 0xCF (first .number) (actionAnswer invoke (denied 250))))
+    (withCounters (first .counters) (associates Han none l))
 
-unfoldable pub challenged : Line → Lent → Client → Head → (counter : ℕ) → List ℕ → Asked → Ruling
-challenged l a c h counter text q =
+-- H's proof is right
+unfoldable pub provesItself : Line → Secrets → (counter : ℕ) → List ℕ → Asked → Bool
+provesItself l a counter text q =
+    rightProof (lentKeys a) (l .han .peer .title) (meterChallenge (l .han .peer .association)) (l .han .counters .accepted) counter
+    (proofIn text (q .wanted))
+
+unfoldable pub challenged : Line → Secrets → Head → (counter : ℕ) → List ℕ → Asked → Ruling
+challenged l a h counter text q =
     cond (not (isChallenge text q)) (excepted notTheChallenge ServiceNotAllowed h (accepted counter l))
-    (cond
-    (rightProof (keysOf (a .guk) (a .ak) l) (peer c l .title) (meterChallenge (peer c l .association)) (l .han .counters .accepted) counter (proofIn text (q .wanted)))
-    (proved l a c h (q .invoke) counter)
-    (disproved l a c h (q .invoke) counter))
+    (cond (provesItself l a counter text q) (proved l a h (q .invoke) counter)
+    (disproved l a h (q .invoke) counter))
 
-abbrev pub answeredChallenge : Line → Lent → Client → Head → (counter : ℕ) → List ℕ → Reading → Ruling
-answeredChallenge l a c h counter text Malformed = excepted malformedApdu ServiceUnknown h (accepted counter l)
-answeredChallenge l a c h counter text (Asks q) = challenged l a c h counter text q
+abbrev pub answeredChallenge : Line → Secrets → Head → (counter : ℕ) → List ℕ → Reading → Ruling
+answeredChallenge l a h counter text Malformed = excepted malformedApdu ServiceUnknown h (accepted counter l)
+answeredChallenge l a h counter text (Asks q) = challenged l a h counter text q
 
--- Envelopes.
+-- Envelopes of H.
 
 -- "then refusals 6 and 7": the counter is looked at once the envelope has opened; outside its window the association is dropped
-abbrev pub admitted : Line → Client → Opened → ((counter : ℕ) → List ℕ → Ruling) → Ruling
-admitted l c fails inside = says envelopeUnopened nothing l
-admitted l c (opens counter text) inside =
-    cond (inWindow (l .han .counters .accepted) counter) (inside counter text) (says outsideWindow nothing (associates c none l))
+abbrev pub admitted : Line → Opened → ((counter : ℕ) → List ℕ → Ruling) → Ruling
+admitted l fails inside = says envelopeUnopened nothing l
+admitted l (opens counter text) inside =
+    cond (inWindow (l .han .counters .accepted) counter) (inside counter text) (says outsideWindow nothing (associates Han none l))
+
+-- CB, under GUK
+unfoldable pub challengeEnclosed : Line → Secrets → Head → List ℕ → Ruling
+challengeEnclosed l a h s =
+    admitted l (opened (lentKeys a) (l .han .peer .title) 0xCB s) (λ counter text. answeredChallenge l a h counter text (readAction text))
+
+-- D0 and D3, under the dedicated key
+unfoldable pub requestEnclosed : Line → Secrets → Head → (tag : ℕ) → List ℕ → Ruling
+requestEnclosed l a h tag s =
+    admitted l (opened (dedicatedKeys (a .ak) l) (l .han .peer .title) tag s)
+    (λ counter text. askedInside l a h tag counter text (readInside tag text))
 
 -- By the tag of the APDU.
 
-abbrev pub byTag : Line → Lent → Client → Head → List ℕ → Tag → Ruling
+abbrev pub byTag : Line → Secrets → Client → Head → List ℕ → Tag → Ruling
 byTag l a c h s Aarq = associating l a c h s (readAarq s c (peer c l .title))
 byTag l a c h s Rlrq = released l c h s
 byTag l a c h s GetRequest = asked l a c h s (readGet s)
-byTag l a c h s GloActionRequest =
-    admitted l c (opened (keysOf (a .guk) (a .ak) l) (peer c l .title) 0xCB s) (λ counter text. answeredChallenge l a c h counter text (readAction text))
-byTag l a c h s DedGetRequest =
-    admitted l c (opened (keysOf (a .guk) (a .ak) l) (peer c l .title) 0xD0 s) (λ counter text. askedInside l a c h 0xD0 counter text (readGet text))
-byTag l a c h s DedActionRequest =
-    admitted l c (opened (keysOf (a .guk) (a .ak) l) (peer c l .title) 0xD3 s) (λ counter text. askedInside l a c h 0xD3 counter text (readAction text))
+byTag l a c h s GloActionRequest = challengeEnclosed l a h s
+byTag l a c h s DedGetRequest = requestEnclosed l a h 0xD0 s
+byTag l a c h s DedActionRequest = requestEnclosed l a h 0xD3 s
 -- never reached: `conversed` refuses them
 byTag l a c h s SetRequest = excepted tagNotPermitted ServiceNotAllowed h l
 byTag l a c h s ActionRequest = excepted tagNotPermitted ServiceNotAllowed h l
@@ -221,7 +234,7 @@ byTag l a c h s DedSetRequest = excepted tagNotPermitted ServiceNotAllowed h l
 byTag l a c h s Unknown = excepted unknownTag ServiceUnknown h l
 
 -- "Tests in order: a tag other than .. D8 02 02; a tag not permitted here, or GET or ACTION without its agreed bit, D8 01 01"
-unfoldable pub conversed : Line → Lent → Client → Head → List ℕ → Tag → Ruling
+unfoldable pub conversed : Line → Secrets → Client → Head → List ℕ → Tag → Ruling
 conversed l a c h s t =
     cond (isUnknown t) (excepted unknownTag ServiceUnknown h l)
     (cond (not (permitted c (peer c l .association) t)) (excepted tagNotPermitted ServiceNotAllowed h l)
@@ -231,19 +244,23 @@ conversed l a c h s t =
 -- By the frame.
 
 -- "13 while down: DM"
-unfoldable pub carried : Line → Lent → Client → Head → List ℕ → Ruling
+unfoldable pub carried : Line → Secrets → Client → Head → List ℕ → Ruling
 carried l a c h s = cond (peer c l .up) (conversed l a c h s (tagIn s)) (says dataWhileDown (dm h) l)
 
-abbrev pub heard : Line → Lent → Frame → Ruling
-heard l a (Unanswered t) = says (frame t) nothing l
-heard l a (Rejected t h) = says (frame t) (reject h t) l
-heard l a (LinkUp c h information) = linkUp l c h information
-heard l a (LinkDown c h) = linkDown l c h
-heard l a (Apdu c h from to) = carried l a c h (part from to (a .received))
+abbrev pub heard : Line → Secrets → (received : List ℕ) → Frame → Ruling
+heard l a f (Unanswered t) = says (frame t) nothing l
+heard l a f (Rejected t h) = says (frame t) (reject h t) l
+heard l a f (LinkUp c h information) = linkUp l c h information
+heard l a f (LinkDown c h) = linkDown l c h
+heard l a f (Apdu c h from to) = carried l a c h (part from to f)
+
+-- what is lent with a frame
+abbrev pub secretsOf : Lent → Secrets
+secretsOf a = record { guk = a .guk; ak = a .ak; challenge = a .challenge }
 
 -- what a frame comes to
 unfoldable pub ruled : Line → Lent → Ruling
-ruled l a = heard l a (readFrame (a .received))
+ruled l a = heard l (secretsOf a) (a .received) (readFrame (a .received))
 
 unfoldable pub decide : Line → Lent → Decision
 decide l a = decision (ruled l a)
@@ -257,7 +274,7 @@ answerTag tag = tag + 4
 -- plain to V, in an envelope under the counter that was taken to H
 unfoldable pub around : Line → Wrap → List ℕ → List ℕ
 around l w text =
-    cond (eqb (w .tag) 0xC0) text (sealedEnvelope (keysOf [] (w .ak) l) (l .title) (answerTag (w .tag)) (l .han .counters .sent) text)
+    cond (eqb (w .tag) 0xC0) text (sealedEnvelope (dedicatedKeys (w .ak) l) (l .title) (answerTag (w .tag)) (l .han .counters .sent) text)
 
 unfoldable pub seal : Line → Wrap → List ℕ → List ℕ
 seal l w text = frameOf (w .destination) (w .source) ui (replyLlc ++ around l w text)
