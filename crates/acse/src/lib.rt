@@ -5,6 +5,7 @@ mod read;
 mod write;
 
 pub use clients::agreed;
+pub use clients::ciphers;
 pub use read::read_aarq;
 pub use read::read_request;
 pub use write::put_accepted_head;

@@ -121,7 +121,8 @@ fn agreed_within(p: Party, offered: [u8; 3]) -> bool
     }
 }
 
-fn is_within(a: [u8; 3], o: [u8; 3]) -> bool
+// Each bit of the first lies in the second.
+pub fn is_within(a: [u8; 3], o: [u8; 3]) -> bool
     ensures { λ r. ⌜ r ≡ within a o ⌝ }
 {
     if a[0] & o[0] != a[0] {

@@ -1,0 +1,13 @@
+-- `association::is_up` meets its contract.
+use mathlib.Core.Path.{ap}
+use Rattle.model.specs.State.{Peer}
+use Rattle.association.proofs.PartyLaws.{peer-of}
+use borrow.Author.Needs.{needs}
+use Rattle.association.proofs.is_up.Statement.{statement}
+use Rattle.association.proofs.is_up.Tie as tie
+
+returns : tie.Need-returns
+returns c = ap (λ (p : Peer). p .up) (peer-of (c .before .args .client) (c .before .args .line) _ (c .party-of .ensures))
+
+pub is-up-spec : {M : Type 1} → statement M
+is-up-spec = tie.close (tie.spec (λ c κs. search needs) returns)

@@ -1,0 +1,179 @@
+// What the line becomes: links up and down, associations begun and ended, counters. An association that ends leaves zeros,
+// and so do challenges that are answered.
+use crate::agreed_in;
+use crate::is_up;
+use crate::key_in;
+use line::CipherParty;
+use line::LineState;
+use line::Party;
+use line::Phase;
+use model::Client;
+use model::Counters;
+ghost use mathlib.Core.Path.{_≡_};
+ghost use mathlib.Core.List.{[]};
+ghost use lib.ListN.{replicate};
+ghost use Rattle.model.specs.declared.Client.the-variants.{Verification, Han};
+ghost use Rattle.model.specs.State.{none, «pending» as pendingWith, associated};
+ghost use Rattle.line.specs.View.{lineOf};
+ghost use Rattle.protocol.specs.Clients.{associates, linked, peer, withCounters, withPeer};
+ghost use Rattle.association.specs.Ends.{Answered, Ends};
+
+// The client's link is up, or down, and its association ends.
+pub fn with_link(line: LineState, client: Client, up: bool) -> LineState
+    ensures { λ r. ⌜ Ends client (withPeer client (linked up (peer client (lineOf line))) (lineOf line)) r ⌝ }
+{
+    match client {
+        Client::Verification => {
+            let v = line.verification;
+            let w = resting(v, up);
+            with_verification(line, w)
+        }
+        Client::Han => {
+            let h = line.han;
+            let p = h.party;
+            let party = resting(p, up);
+            let counters = h.counters;
+            let k = CipherParty {
+                party,
+                key: [0u8; 16],
+                client: [0u8; 8],
+                meter: [0u8; 8],
+                counters,
+            };
+            with_han(line, k)
+        }
+    }
+}
+
+// The client's association ends; its link stays.
+pub fn ended(line: LineState, client: Client) -> LineState
+    ensures { λ r. ⌜ Ends client (associates client none (lineOf line)) r ⌝ }
+{
+    let up = is_up(line, client);
+    with_link(line, client, up)
+}
+
+// V is associated.
+pub fn associated_plain(line: LineState, agreed: [u8; 3]) -> LineState
+    ensures { λ r. ⌜ lineOf r ≡ associates Verification (associated agreed []) (lineOf line) ⌝ }
+{
+    let v = line.verification;
+    let w = in_phase(v, Phase::Associated, agreed);
+    with_verification(line, w)
+}
+
+// H is pending: its key and both challenges are held.
+pub fn pending(
+    line: LineState,
+    agreed: [u8; 3],
+    key: [u8; 16],
+    client: [u8; 8],
+    meter: [u8; 8],
+    counters: Counters,
+) -> LineState
+    ensures { λ r. ⌜ lineOf r ≡ withCounters counters (associates Han (pendingWith agreed key client meter) (lineOf line)) ⌝ }
+{
+    let h = line.han;
+    let p = h.party;
+    let party = in_phase(p, Phase::Pending, agreed);
+    let k = CipherParty {
+        party,
+        key,
+        client,
+        meter,
+        counters,
+    };
+    with_han(line, k)
+}
+
+// H is associated: what was agreed and its key stay, and the challenges are wiped.
+pub fn associated_ciphered(line: LineState, counters: Counters) -> LineState
+    ensures { λ r. ⌜ Answered counters (lineOf line) r ⌝ }
+{
+    let h = line.han;
+    let p = h.party;
+    let agreed = agreed_in(line, Client::Han);
+    let party = in_phase(p, Phase::Associated, agreed);
+    let key = key_in(h);
+    let k = CipherParty {
+        party,
+        key,
+        client: [0u8; 8],
+        meter: [0u8; 8],
+        counters,
+    };
+    with_han(line, k)
+}
+
+// The counters of H.
+pub fn with_counters(line: LineState, counters: Counters) -> LineState
+    ensures { λ r. ⌜ lineOf r ≡ withCounters counters (lineOf line) ⌝ }
+{
+    let h = line.han;
+    let party = h.party;
+    let key = h.key;
+    let client = h.client;
+    let meter = h.meter;
+    let k = CipherParty {
+        party,
+        key,
+        client,
+        meter,
+        counters,
+    };
+    with_han(line, k)
+}
+
+// The line with this party of V.
+fn with_verification(line: LineState, verification: Party) -> LineState
+    ensures { λ r. ⌜ r ≡ record { title = line .title; verification = verification; han = line .han; p5 = line .p5 } ⌝ }
+{
+    let title = line.title;
+    let han = line.han;
+    LineState {
+        title,
+        verification,
+        han,
+        p5: line.p5,
+    }
+}
+
+// The line with this party of H.
+fn with_han(line: LineState, han: CipherParty) -> LineState
+    ensures { λ r. ⌜ r ≡ record { title = line .title; verification = line .verification; han = han; p5 = line .p5 } ⌝ }
+{
+    let title = line.title;
+    let verification = line.verification;
+    LineState {
+        title,
+        verification,
+        han,
+        p5: line.p5,
+    }
+}
+
+// A party without an association, and nothing left of one.
+fn resting(party: Party, up: bool) -> Party
+    ensures { λ r. ⌜ r ≡ record { title = party .title; up = up; phase = Phase.Idle; agreed = replicate 3 0 } ⌝ }
+{
+    let title = party.title;
+    Party {
+        title,
+        up,
+        phase: Phase::Idle,
+        agreed: [0u8; 3],
+    }
+}
+
+// A party whose association has come so far.
+fn in_phase(party: Party, phase: Phase, agreed: [u8; 3]) -> Party
+    ensures { λ r. ⌜ r ≡ record { title = party .title; up = party .up; phase = phase; agreed = agreed } ⌝ }
+{
+    let title = party.title;
+    Party {
+        title,
+        up: party.up,
+        phase,
+        agreed,
+    }
+}

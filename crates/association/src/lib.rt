@@ -1,0 +1,264 @@
+// The clients on the line in code: what the line tells of a client's link, association and keys, and, in `change`, what it
+// becomes (document 01, "The association"). Each answers for every line; crate protocol says what each means.
+mod change;
+
+pub use change::associated_ciphered;
+pub use change::associated_plain;
+pub use change::ended;
+pub use change::pending;
+pub use change::with_counters;
+pub use change::with_link;
+use cosem::Tag;
+use envelope::Keys;
+use line::CipherParty;
+use line::LineState;
+use line::Party;
+use line::Phase;
+use model::Client;
+use protocol::Secrets;
+ghost use mathlib.Core.Path.{_≡_};
+ghost use mathlib.Core.List.{List};
+ghost use Prim.Native.Nat.{ℕ};
+ghost use Rattle.model.specs.State.{none, «pending» as pendingWith, associated};
+ghost use Rattle.line.specs.View.{cipheringOf, lineOf};
+ghost use Rattle.protocol.specs.Clients.{agreedIn, bitAgreed, clientChallenge, dedicatedKeys, isUnknown, keyIn, lentKeys, meterChallenge, peer, permitted, selectiveIn};
+ghost use Rattle.protocol.specs.Decide.{heldByP5};
+ghost use Rattle.association.specs.Parties.{partyOf};
+
+// Whether the client's link is up.
+pub fn is_up(line: LineState, client: Client) -> bool
+    ensures { λ r. ⌜ r ≡ peer client (lineOf line) .up ⌝ }
+{
+    let p = party_of(line, client);
+    p.up
+}
+
+// The client's title.
+pub fn title_of(line: LineState, client: Client) -> [u8; 8]
+    ensures { λ r. ⌜ r ≡ peer client (lineOf line) .title ⌝ }
+{
+    let p = party_of(line, client);
+    p.title
+}
+
+// Whether P5 holds the client.
+pub fn is_held_by_p5(line: LineState, client: Client) -> bool
+    ensures { λ r. ⌜ r ≡ heldByP5 client (lineOf line) ⌝ }
+{
+    match client {
+        Client::Verification => line.p5,
+        Client::Han => false,
+    }
+}
+
+// Whether the tag is none of those that a client may send.
+pub fn is_unknown(tag: Tag) -> bool
+    ensures { λ r. ⌜ r ≡ isUnknown tag ⌝ }
+{
+    match tag {
+        Tag::Aarq => false,
+        Tag::Rlrq => false,
+        Tag::GetRequest => false,
+        Tag::SetRequest => false,
+        Tag::ActionRequest => false,
+        Tag::GloActionRequest => false,
+        Tag::DedGetRequest => false,
+        Tag::DedSetRequest => false,
+        Tag::DedActionRequest => false,
+        Tag::Unknown => true,
+    }
+}
+
+// Whether the client may send the tag as its association stands.
+pub fn is_permitted(line: LineState, client: Client, tag: Tag) -> bool
+    ensures { λ r. ⌜ r ≡ permitted client (peer client (lineOf line) .association) tag ⌝ }
+{
+    let p = party_of(line, client);
+    let phase = p.phase;
+    match phase {
+        Phase::Idle => permitted_idle(client, tag),
+        Phase::Pending => permitted_pending(client, tag),
+        Phase::Associated => permitted_associated(client, tag),
+    }
+}
+
+// With no association an AARQ.
+fn permitted_idle(client: Client, tag: Tag) -> bool
+    ensures { λ r. ⌜ r ≡ permitted client none tag ⌝ }
+{
+    match tag {
+        Tag::Aarq => true,
+        Tag::Rlrq => false,
+        Tag::GetRequest => false,
+        Tag::SetRequest => false,
+        Tag::ActionRequest => false,
+        Tag::GloActionRequest => false,
+        Tag::DedGetRequest => false,
+        Tag::DedSetRequest => false,
+        Tag::DedActionRequest => false,
+        Tag::Unknown => false,
+    }
+}
+
+// While pending the challenge, of a client that ciphers; and the release.
+fn permitted_pending(client: Client, tag: Tag) -> bool
+    ensures { λ r. ⌜ ((a k c s : List ℕ) → r ≡ permitted client (pendingWith a k c s) tag) ⌝ }
+{
+    match tag {
+        Tag::Aarq => false,
+        Tag::Rlrq => true,
+        Tag::GetRequest => false,
+        Tag::SetRequest => false,
+        Tag::ActionRequest => false,
+        Tag::GloActionRequest => acse::ciphers(client),
+        Tag::DedGetRequest => false,
+        Tag::DedSetRequest => false,
+        Tag::DedActionRequest => false,
+        Tag::Unknown => false,
+    }
+}
+
+// When associated the requests: plain, or ciphered from a client that ciphers; and the release.
+fn permitted_associated(client: Client, tag: Tag) -> bool
+    ensures { λ r. ⌜ ((a k : List ℕ) → r ≡ permitted client (associated a k) tag) ⌝ }
+{
+    match tag {
+        Tag::Aarq => false,
+        Tag::Rlrq => true,
+        Tag::GetRequest => !acse::ciphers(client),
+        Tag::SetRequest => false,
+        Tag::ActionRequest => false,
+        Tag::GloActionRequest => false,
+        Tag::DedGetRequest => acse::ciphers(client),
+        Tag::DedSetRequest => false,
+        Tag::DedActionRequest => acse::ciphers(client),
+        Tag::Unknown => false,
+    }
+}
+
+// Whether the service that the tag needs is agreed.
+pub fn is_bit_agreed(line: LineState, client: Client, tag: Tag) -> bool
+    ensures { λ r. ⌜ r ≡ bitAgreed (agreedIn (peer client (lineOf line) .association)) tag ⌝ }
+{
+    let agreed = agreed_in(line, client);
+    is_agreed(agreed, tag)
+}
+
+// Whether the service that the tag needs is among these.
+fn is_agreed(agreed: [u8; 3], tag: Tag) -> bool
+    ensures { λ r. ⌜ r ≡ bitAgreed agreed tag ⌝ }
+{
+    match tag {
+        Tag::Aarq => true,
+        Tag::Rlrq => true,
+        Tag::GetRequest => line::is_within([0x00, 0x00, 0x10], agreed),
+        Tag::SetRequest => true,
+        Tag::ActionRequest => true,
+        Tag::GloActionRequest => true,
+        Tag::DedGetRequest => line::is_within([0x00, 0x00, 0x10], agreed),
+        Tag::DedSetRequest => true,
+        Tag::DedActionRequest => line::is_within([0x00, 0x00, 0x01], agreed),
+        Tag::Unknown => true,
+    }
+}
+
+// Whether selective access is agreed.
+pub fn is_selective(line: LineState, client: Client) -> bool
+    ensures { λ r. ⌜ r ≡ selectiveIn client (lineOf line) ⌝ }
+{
+    let agreed = agreed_in(line, client);
+    line::is_within([0x00, 0x00, 0x04], agreed)
+}
+
+// H's challenge.
+pub fn client_challenge(line: LineState) -> [u8; 8]
+    ensures { λ r. ⌜ r ≡ clientChallenge (lineOf line .han .peer .association) ⌝ }
+{
+    let h = line.han;
+    let p = h.party;
+    let phase = p.phase;
+    match phase {
+        Phase::Idle => [0u8; 8],
+        Phase::Pending => h.client,
+        Phase::Associated => [0u8; 8],
+    }
+}
+
+// The meter's challenge to H.
+pub fn meter_challenge(line: LineState) -> [u8; 8]
+    ensures { λ r. ⌜ r ≡ meterChallenge (lineOf line .han .peer .association) ⌝ }
+{
+    let h = line.han;
+    let p = h.party;
+    let phase = p.phase;
+    match phase {
+        Phase::Idle => [0u8; 8],
+        Phase::Pending => h.meter,
+        Phase::Associated => [0u8; 8],
+    }
+}
+
+// The keys around an association's messages.
+pub fn lent_keys(secrets: Secrets) -> Keys
+    ensures { λ r. ⌜ r ≡ lentKeys secrets ⌝ }
+{
+    let guk = secrets.guk;
+    let ak = secrets.ak;
+    Keys {
+        guk,
+        ak,
+        dedicated: [0u8; 16],
+    }
+}
+
+// The keys around requests and their answers.
+pub fn dedicated_keys(ak: [u8; 16], line: LineState) -> Keys
+    ensures { λ r. ⌜ r ≡ dedicatedKeys ak (lineOf line) ⌝ }
+{
+    let h = line.han;
+    let dedicated = key_in(h);
+    Keys {
+        guk: [0u8; 16],
+        ak,
+        dedicated,
+    }
+}
+
+// The client's party.
+fn party_of(line: LineState, client: Client) -> Party
+    ensures { λ r. ⌜ r ≡ partyOf client line ⌝ }
+{
+    match client {
+        Client::Verification => line.verification,
+        Client::Han => {
+            let h = line.han;
+            h.party
+        }
+    }
+}
+
+// The services agreed with the client; zeros where it has no association.
+fn agreed_in(line: LineState, client: Client) -> [u8; 3]
+    ensures { λ r. ⌜ r ≡ agreedIn (peer client (lineOf line) .association) ⌝ }
+{
+    let p = party_of(line, client);
+    let phase = p.phase;
+    match phase {
+        Phase::Idle => [0u8; 3],
+        Phase::Pending => p.agreed,
+        Phase::Associated => p.agreed,
+    }
+}
+
+// The dedicated key; zeros where there is no association.
+fn key_in(han: CipherParty) -> [u8; 16]
+    ensures { λ r. ⌜ r ≡ keyIn (cipheringOf han .peer .association) ⌝ }
+{
+    let p = han.party;
+    let phase = p.phase;
+    match phase {
+        Phase::Idle => [0u8; 16],
+        Phase::Pending => han.key,
+        Phase::Associated => han.key,
+    }
+}
