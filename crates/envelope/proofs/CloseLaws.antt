@@ -1,15 +1,14 @@
 -- Closing: the sizes of an envelope, that head, sealed text and GCM tag one after the other are the envelope, and the law for
 -- callers that lay the text out before they close it.
 use mathlib.Core.Path.{_≡_, sym, ap, ap₂, _∙_}
-use mathlib.Core.List.{List, _∷_, _++_, append-assoc}
+use mathlib.Core.List.{List, _∷_, _++_}
 use Prim.Native.Nat.{ℕ, _+_, _-_, _≤_}
 use native.Mathlib.Omega.{arith}
-use lib.ListN.{length, take, drop, length-append, take-append-drop}
-use lib.Seq.{take-append-le, length-take-le}
+use lib.ListN.{length, take, drop, length-append}
 use Rattle.wire.specs.Numbers.{highFirst, lengthField}
 use Rattle.wire.specs.Wrote.{over, Wrote}
 use Rattle.wire.proofs.NumberLaws.{length-high}
-use Rattle.wire.proofs.WroteLaws.{length-stretch, length-over, then, stands, lent, there as stands-there, past, untouched, again}
+use Rattle.wire.proofs.WroteLaws.{length-stretch, length-over, then, stands, lent, there as stands-there, untouched, again, covers}
 use Rattle.gcm.specs.Gcm.{tagLength, tag, sealed}
 use Rattle.gcm.specs.Calls.{Sealed}
 use Rattle.gcm.proofs.GcmLaws.{length-ciphered, length-sealed}
@@ -72,23 +71,6 @@ module _ (k : Keys) (title : List ℕ) (t counter n at : ℕ) (l : List ℕ) (h 
         let stood : Wrote m a m (a + n) (take (e - a) (drop a m)) = rw j (stands m a n (omega arith)) in
         let laid : Wrote m a (take a m ++ (c ++ drop (e - a) (drop a m))) e c = rw (there, he) (again stood c full) in
         rw (x, size, ← hk, ← hi, ← ha, ← s .cipher, ← (s .tagged ∙ ap (tag key iv aad) (sym (s .cipher)))) (then w (then laid v))
-
--- what stands before a place stays where bytes are written behind it
-before : {l m : List ℕ} {a b : ℕ} {xs : List ℕ} → Wrote l a m b xs → (at : ℕ) → at ≤ a → take at m ≡ take at l
-unfolding over
-before {l} {m} {a} {b} {xs} w at h =
-    let n : length (take a l) ≡ a = length-take-le a l (omega (arith, w .room)) in
-    ap (take at) (w .is ∙ append-assoc (take a l) xs (drop (a + length xs) l))
-    ∙ take-append-le at (take a l) (xs ++ drop (a + length xs) l) (omega arith)
-    ∙ sym (take-append-le at (take a l) (drop a l) (omega arith))
-    ∙ ap (take at) (take-append-drop a l)
-
--- a write over all that an earlier one wrote
-covers : {l m p : List ℕ} {a b at r : ℕ} {xs ys : List ℕ} → Wrote l a m b xs → Wrote m at p r ys → at ≤ a → b ≤ r → Wrote l at p r ys
-unfolding over
-covers {l} {m} {p} {a} {b} {at} {r} {xs} {ys} w v h k =
-    let behind : drop (at + length ys) m ≡ drop (at + length ys) l = past w (at + length ys) (omega (arith, v .next)) in
-    record { is = v .is ∙ rw (before w at h, behind); next = v .next; kept = v .kept ∙ w .kept; room = omega (arith, v .room, w .kept) }
 
 -- for callers: a text that was written behind the room for its head, and the envelope closed around it, is the envelope written
 pub encloses : (k : Keys) (title : List ℕ) (tag counter : ℕ) {l m p : List ℕ} {at b r : ℕ} (text : List ℕ) → Wrote l (at + headSize (length text)) m b text

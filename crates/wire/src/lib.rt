@@ -13,6 +13,7 @@ pub use read::skip_at;
 pub use read::u16_at;
 pub use read::u32_at;
 pub use write::length_size;
+pub use write::move_down;
 pub use write::put;
 pub use write::put_6;
 pub use write::put_8;

@@ -3,7 +3,7 @@
 ghost use mathlib.Core.Path.{_≡_};
 ghost use mathlib.Core.List.{[], _∷_};
 ghost use Prim.Native.Nat.{_+_, _≤_};
-ghost use lib.ListN.{length};
+ghost use lib.ListN.{drop, length, take};
 ghost use Rattle.wire.specs.Wrote.{Wrote, WroteArray};
 ghost use Rattle.wire.specs.Numbers.{highFirst, lowFirst, lengthField};
 
@@ -56,6 +56,19 @@ pub fn put_all(out: &mut [u8], at: usize, s: &[u8]) -> usize
         i += 1;
     }
     at + i
+}
+
+// The `n` bytes that stand at `from`, moved down to `to`.
+pub fn move_down(out: &mut [u8], from: usize, to: usize, n: usize) -> usize
+    requires { ⌜ (to ≤ from) × (from + n ≤ length (now out)) ⌝ }
+    ensures { λ r. ⌜ Wrote (now (out .entry)) to (now (out .exit)) r (take n (drop from (now (out .entry)))) ⌝ }
+{
+    let mut i = 0;
+    while i < n {
+        out[to + i] = out[from + i];
+        i += 1;
+    }
+    to + i
 }
 
 // An array of 6, 8, 12 or 16 bytes, which may be a field of a struct.
