@@ -6,3 +6,6 @@ pub mod Claim
 pub mod Ruled
 pub mod Turns
 pub mod Outcomes
+pub mod Framed
+pub mod LinkUp
+pub mod SecondRow

@@ -14,8 +14,8 @@ use Rattle.model.specs.Names.{every}
 use Rattle.model.specs.Periods.{listed}
 use Rattle.model.specs.State.{none, Model, withLine}
 use Rattle.model.specs.Soundness.{sound}
-use Rattle.model.specs.Objects.{Turn}
-use Rattle.model.specs.Calls.{Lent, lentRefusal, frame as frameCall, Outcome, refused, decided, act, step}
+use Rattle.model.specs.Objects.{Request, turned}
+use Rattle.model.specs.Calls.{Lent, lentRefusal, frame as frameCall, Outcome, refused, serve, decided, act, step}
 use Rattle.model.proofs.ListLaws.{both, every-anywhere}
 use Rattle.hdlc.specs.declared.FrameTest.{FrameTest}
 use Rattle.hdlc.specs.declared.FrameTest.the-variants.{ShortFrame, FlagMissing, FrameType, LengthMismatch, LengthEightOrNine, WrongFcs, WrongHcs, EvenAddress, FrmrReceived, OverLength, SegmentBit, PfClear, WrongDestination, WrongSource, UnknownControl, LinkDownWithInformation, ShortInformation, WrongLlc}
@@ -31,10 +31,10 @@ use Rattle.counters.specs.Window.{accepting}
 use Rattle.protocol.specs.Rulings.{Ruling, decision}
 use Rattle.protocol.specs.Clients.{associates, withCounters, selectiveIn}
 use Rattle.protocol.specs.Decide.{wrap, accepted, advanced, disproved, around, seal, secretsOf, ruled, decide, p2}
-use Rattle.protocol.specs.Outcomes.{outcome, headIn, SentBy, said, Accepted, Row, refuses, drops, overLength, badFrame, noLink, notAccepted, exception, exceptionInside, denial, denialInside, wrongProof, done, RowsHold, FrameNumbers, Silent, Unchanged, Dropped, LastAccepted, PlainUnchanged, Advanced, counters, association, DeniedBody, DeniedLine}
+use Rattle.protocol.specs.Outcomes.{outcome, headIn, SentBy, said, Enclosed, get, action, Accepted, Row, refuses, drops, overLength, badFrame, noLink, notAccepted, exception, exceptionInside, denial, denialInside, wrongProof, links, tells, grants, grantsInside, RowsHold, FrameNumbers, Silent, Unchanged, Dropped, LastAccepted, PlainUnchanged, Advanced, counters, association, DeniedBody, DeniedLine}
 use Rattle.protocol.proofs.Claim.{p2-numbers-allowed}
 use Rattle.protocol.proofs.Ruled as by
-use Rattle.protocol.proofs.Turns.{Turning, grants, denies, turning}
+use Rattle.protocol.proofs.Turns as by-turn
 
 -- the numbers of a frame's own tests
 pub data FrameNumber : ℕ → Type 0 where
@@ -43,7 +43,7 @@ pub data FrameNumber : ℕ → Type 0 where
   eight : FrameNumber 8
   nine : FrameNumber 9
 
-frame-number : (t : FrameTest) → FrameNumber (numberOf t)
+pub frame-number : (t : FrameTest) → FrameNumber (numberOf t)
 frame-number ShortFrame = four
 frame-number FlagMissing = four
 frame-number FrameType = four
@@ -90,20 +90,22 @@ module _ (a : Lent) (m : Model) where
   row-rejected nine h = badFrame
 
   -- the body's answer, to V and to H
-  row-served : SentBy Verification a → {t : Turn} → Turning (m .body) t → Row a m (record { refusal = t .refusal; sent = seal (m .line) (wrap (a .ak) (headIn a) 0xC0) (t .bytes); next = record { line = m .line; body = t .body } })
+  row-served : (q : Request) → q .client ≡ Verification → SentBy Verification a → by-turn.Turning (m .body) (turned q (m .body))
+      → Row a m (decided p2 (serve q (wrap (a .ak) (headIn a) 0xC0) (m .line)) m)
   unfolding seal around
-  row-served from (grants e) = rw e (done _ _)
-  row-served from (denies e b d) = rw (e, b) (denial from d)
+  row-served q c from (by-turn.grants e) = rw e (grants q from c)
+  row-served q c from (by-turn.denies e b d) = rw (e, b) (denial from d)
 
-  row-inside : {tag : ℕ} (n : ℕ) → by.Enclosed tag → SentBy Han a → Accepted n (m .line) → {t : Turn} → Turning (m .body) t
-      → Row a m (record { refusal = t .refusal; sent = seal (advanced (accepted n (m .line))) (wrap (a .ak) (headIn a) tag) (t .bytes); next = record { line = advanced (accepted n (m .line)); body = t .body } })
+  row-inside : {tag : ℕ} (q : Request) (n : ℕ) → q .client ≡ Han → Enclosed tag → SentBy Han a → Accepted n (m .line) → by-turn.Turning (m .body) (turned q (m .body))
+      → Row a m (decided p2 (serve q (wrap (a .ak) (headIn a) tag) (advanced (accepted n (m .line)))) m)
   unfolding seal around taken accepting
-  row-inside n k from w (grants e) = rw e (done _ _)
-  row-inside n by.get from w (denies e b d) = rw (e, b) (denialInside 0xD4 n from w d)
-  row-inside n by.action from w (denies e b d) = rw (e, b) (denialInside 0xD7 n from w d)
+  row-inside q n c get from w (by-turn.grants e) = rw e (grantsInside q n from get w c)
+  row-inside q n c action from w (by-turn.grants e) = rw e (grantsInside q n from action w c)
+  row-inside q n c get from w (by-turn.denies e b d) = rw (e, b) (denialInside n from get w d)
+  row-inside q n c action from w (by-turn.denies e b d) = rw (e, b) (denialInside n from action w d)
 
   row-ruled : {r : Ruling} → by.Ruled (m .line) (secretsOf a) (a .received) r → Row a m (decided p2 (decision r) m)
-  unfolding disproved taken accepting
+  unfolding disproved taken accepting requested
   row-ruled (by.unheard t h) = row-unheard (frame-number t) h
   row-ruled by.unopened = refuses 6 refl
   row-ruled (by.drops from) = drops (sent-by Han from)
@@ -113,13 +115,17 @@ module _ (a : Lent) (m : Model) where
   row-ruled (by.excepts t e n) = rw n (exception e)
   row-ruled (by.exceptsInside t e counter n from w) = rw n (exceptionInside e counter (sent-by Han from) w)
   row-ruled (by.disproves invoke counter from w) = wrongProof invoke counter (sent-by Han from) w
-  row-ruled (by.links after) = done _ _
-  row-ruled (by.tells bs after f) = done _ _
-  row-ruled (by.serves s q from) = row-served (sent-by Verification from) (turning (requested Verification (selectiveIn Verification (m .line)) s q) (m .body))
-  row-ruled (by.servesInside tag s q counter k from w) = row-inside counter k (sent-by Han from) w (turning (requested Han (selectiveIn Han (m .line)) s q) (m .body))
+  row-ruled (by.links after) = links after
+  row-ruled (by.tells bs after f) = tells bs after
+  row-ruled (by.serves s q from) =
+      let r = requested Verification (selectiveIn Verification (m .line)) s q in
+      row-served r refl (sent-by Verification from) (by-turn.turning r (m .body))
+  row-ruled (by.servesInside tag s q counter k from w) =
+      let r = requested Han (selectiveIn Han (m .line)) s q in
+      row-inside r counter refl k (sent-by Han from) w (by-turn.turning r (m .body))
 
   -- refusals 1 and 2, and then 3, come before the frame
-  row-lent : (P : Outcome → Type 0) → P (refused 1 m) → P (refused 2 m) → P (refused 3 m) → (lentRefusal a ≡ 0 → sound m ≡ true → P (decided p2 (decision (ruled (m .line) a)) m)) → P (outcome a m)
+  pub row-lent : (P : Outcome → Type 0) → P (refused 1 m) → P (refused 2 m) → P (refused 3 m) → (lentRefusal a ≡ 0 → sound m ≡ true → P (decided p2 (decision (ruled (m .line) a)) m)) → P (outcome a m)
   unfolding step act lentRefusal decide
   row-lent P one two three p =
       go (ltb (a .room) (replyRoom longestSent)) (not (eqb (length (a .guk)) 16)) (not (eqb (length (a .ak)) 16)) (not (eqb (length (a .challenge)) 8)) (sound m) refl p
@@ -167,9 +173,12 @@ module _ (a : Lent) (m : Model) where
   silent-row (exception x) e = absurd (false≢true e)
   silent-row (exceptionInside x n from w) e = absurd (false≢true e)
   silent-row (denial from d) e = absurd (false≢true e)
-  silent-row (denialInside tag n from w d) e = absurd (false≢true e)
+  silent-row (denialInside n from k w d) e = absurd (false≢true e)
   silent-row (wrongProof invoke n from w) e = absurd (false≢true e)
-  silent-row (done sent next) e = absurd (false≢true e)
+  silent-row (links after) e = absurd (false≢true e)
+  silent-row (tells bs after) e = absurd (false≢true e)
+  silent-row (grants q from c) e = absurd (false≢true e)
+  silent-row (grantsInside q n from k w c) e = absurd (false≢true e)
 
   unchanged-row : {o : Outcome} → Row a m o → listed (o .refusal) (1 ∷ 2 ∷ 3 ∷ 4 ∷ 5 ∷ 6 ∷ 8 ∷ 9 ∷ 10 ∷ 11 ∷ []) ≡ true → o .next ≡ m
   unchanged-row (refuses n k) e = refl
@@ -181,9 +190,12 @@ module _ (a : Lent) (m : Model) where
   unchanged-row (exception x) e = refl
   unchanged-row (exceptionInside x n from w) e = absurd (false≢true e)
   unchanged-row (denial from d) e = refl
-  unchanged-row (denialInside tag n from w d) e = absurd (false≢true e)
+  unchanged-row (denialInside n from k w d) e = absurd (false≢true e)
   unchanged-row (wrongProof invoke n from w) e = absurd (false≢true e)
-  unchanged-row (done sent next) e = absurd (false≢true e)
+  unchanged-row (links after) e = absurd (false≢true e)
+  unchanged-row (tells bs after) e = absurd (false≢true e)
+  unchanged-row (grants q from c) e = absurd (false≢true e)
+  unchanged-row (grantsInside q n from k w c) e = absurd (false≢true e)
 
   dropped-row : {o : Outcome} → Row a m o → o .refusal ≡ 7 → o .next ≡ withLine (associates Han none (m .line)) m
   dropped-row (refuses n k) e = absurd (early n k (omega arith))
@@ -195,9 +207,12 @@ module _ (a : Lent) (m : Model) where
   dropped-row (exception x) e = absurd (omega arith)
   dropped-row (exceptionInside x n from w) e = absurd (omega arith)
   dropped-row (denial from d) e = absurd (omega arith)
-  dropped-row (denialInside tag n from w d) e = absurd (omega arith)
+  dropped-row (denialInside n from k w d) e = absurd (omega arith)
   dropped-row (wrongProof invoke n from w) e = absurd (omega arith)
-  dropped-row (done sent next) e = absurd (omega arith)
+  dropped-row (links after) e = absurd (omega arith)
+  dropped-row (tells bs after) e = absurd (omega arith)
+  dropped-row (grants q from c) e = absurd (omega arith)
+  dropped-row (grantsInside q n from k w c) e = absurd (omega arith)
 
   accepted-row : {o : Outcome} → Row a m o → o .refusal ≡ 12 → o .next ≡ withLine (withCounters (accepting (m .line .han .counters) (o .next .line .han .counters .accepted)) (m .line)) m
   unfolding accepting
@@ -210,9 +225,12 @@ module _ (a : Lent) (m : Model) where
   accepted-row (exception x) e = refl
   accepted-row (exceptionInside x n from w) e = refl
   accepted-row (denial from d) e = absurd (omega arith)
-  accepted-row (denialInside tag n from w d) e = absurd (omega arith)
+  accepted-row (denialInside n from k w d) e = absurd (omega arith)
   accepted-row (wrongProof invoke n from w) e = absurd (omega arith)
-  accepted-row (done sent next) e = absurd (omega arith)
+  accepted-row (links after) e = absurd (omega arith)
+  accepted-row (tells bs after) e = absurd (omega arith)
+  accepted-row (grants q from c) e = absurd (omega arith)
+  accepted-row (grantsInside q n from k w c) e = absurd (omega arith)
 
   -- a frame has one sender
   one-sender : {A : Type 0} → SentBy Verification a → SentBy Han a → A
@@ -228,9 +246,12 @@ module _ (a : Lent) (m : Model) where
   plain-row (exception x) v e = refl
   plain-row (exceptionInside x n from w) v e = one-sender v from
   plain-row (denial from d) v e = refl
-  plain-row (denialInside tag n from w d) v e = one-sender v from
+  plain-row (denialInside n from k w d) v e = one-sender v from
   plain-row (wrongProof invoke n from w) v e = one-sender v from
-  plain-row (done sent next) v e = absurd (false≢true e)
+  plain-row (links after) v e = absurd (false≢true e)
+  plain-row (tells bs after) v e = absurd (false≢true e)
+  plain-row (grants q from c) v e = absurd (false≢true e)
+  plain-row (grantsInside q n from k w c) v e = absurd (false≢true e)
 
   denied-row : {o : Outcome} → Row a m o → o .refusal ≡ 13 → o .next .body ≡ m .body
   denied-row (refuses n k) e = refl
@@ -242,9 +263,12 @@ module _ (a : Lent) (m : Model) where
   denied-row (exception x) e = refl
   denied-row (exceptionInside x n from w) e = refl
   denied-row (denial from d) e = refl
-  denied-row (denialInside tag n from w d) e = refl
+  denied-row (denialInside n from k w d) e = refl
   denied-row (wrongProof invoke n from w) e = refl
-  denied-row (done sent next) e = absurd (omega arith)
+  denied-row (links after) e = absurd (omega arith)
+  denied-row (tells bs after) e = absurd (omega arith)
+  denied-row (grants q from c) e = absurd (omega arith)
+  denied-row (grantsInside q n from k w c) e = absurd (omega arith)
 
   advanced-row : {o : Outcome} → Row a m o → SentBy Han a → o .refusal ≡ 13 → Advanced (m .line) (o .next .line)
   advanced-row (refuses n k) h e = absurd (early n k (omega arith))
@@ -256,9 +280,12 @@ module _ (a : Lent) (m : Model) where
   advanced-row (exception x) h e = absurd (omega arith)
   advanced-row (exceptionInside x n from w) h e = absurd (omega arith)
   advanced-row (denial from d) h e = one-sender from h
-  advanced-row (denialInside tag n from w d) h e = counters n w
+  advanced-row (denialInside n from k w d) h e = counters n w
   advanced-row (wrongProof invoke n from w) h e = association n w
-  advanced-row (done sent next) h e = absurd (omega arith)
+  advanced-row (links after) h e = absurd (omega arith)
+  advanced-row (tells bs after) h e = absurd (omega arith)
+  advanced-row (grants q from c) h e = absurd (omega arith)
+  advanced-row (grantsInside q n from k w c) h e = absurd (omega arith)
 
 pub silent : Silent
 silent a m = silent-row a m (rows-hold a m)

@@ -56,6 +56,7 @@ use Rattle.envelope.proofs.ProofLaws.{length-proof}
 use Rattle.protocol.specs.declared.Secrets.{Secrets}
 use Rattle.protocol.specs.Clients.{peer, associates, agreedIn, clientChallenge, selectiveIn, lentKeys, dedicatedKeys, isPending, isAssociated, permitted, bitAgreed, isUnknown}
 use Rattle.protocol.specs.Rulings.{Test, none as noTest, frame, linkUpWithInformation, p5HoldsV, linkDownWhileDown, dataWhileDown, unknownTag, tagNotPermitted, bitNotAgreed, aarqNotAccepted, envelopeUnopened, outsideWindow, malformedApdu, notTheChallenge, refusalOf, nothing, ua, dm, reject, apdu, Ruling, says, asks}
+use Rattle.protocol.specs.Outcomes.{Enclosed, get, action}
 use Rattle.protocol.specs.Decide.{heldByP5, linkUp, linkDown, acceptedPlain, acceptedCiphered, initiated, enclosed, associating, released, wrap, asked, accepted, advanced, askedInside, readInside, isChallenge, provesItself, provedText, proved, disproved, challenged, answeredChallenge, admitted, challengeEnclosed, requestEnclosed, byTag, conversed, carried, heard, secretsOf, ruled}
 
 -- the frame is this client's
@@ -69,11 +70,6 @@ InWindow l counter = inWindow (l .han .counters .accepted) counter ≡ true
 -- an APDU that fits a frame, where the title and the challenge that it may hold have 8 bytes
 abbrev pub Fits : Line → Secrets → List ℕ → Type 0
 Fits l a bs = length (l .title) ≡ 8 → length (a .challenge) ≡ 8 → length bs ≤ apduRoom longestSent
-
--- the tags of H's enclosed requests, GET and ACTION
-pub data Enclosed : ℕ → Type 0 where
-  get : Enclosed 0xD0
-  action : Enclosed 0xD3
 
 -- A frame f on the line l, by the rows of the table. Of an accepted frame that the line answers, it tells what goes out and that
 -- it fits.

@@ -4,3 +4,4 @@ pub mod Decide
 pub mod Examples
 pub mod Claim
 pub mod Outcomes
+pub mod Lazy

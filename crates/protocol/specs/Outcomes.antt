@@ -1,20 +1,23 @@
 -- Document 01's table "What goes out", for frame calls: its rows, and its cells one by one, of every meter, sound or not, and
--- whatever is lent. Proved in proofs/Outcomes.
+-- whatever is lent. Proved in proofs/Outcomes and proofs/Framed.
 use mathlib.Core.Path.{_≡_}
 use mathlib.Core.Bool.{true}
 use mathlib.Core.List.{List, [], _∷_}
-use Prim.Native.Nat.{ℕ}
+use Prim.Native.Nat.{ℕ, _≤_}
+use lib.ListN.{length, take}
 use Rattle.model.specs.declared.Client.{Client}
 use Rattle.model.specs.declared.Client.the-variants.{Verification, Han}
+use Rattle.model.specs.Limits.{longestSent, replyRoom}
 use Rattle.model.specs.Periods.{listed}
 use Rattle.model.specs.State.{none, Line, Model, withLine}
-use Rattle.model.specs.Objects.{denied, getAnswer, actionAnswer}
+use Rattle.model.specs.Objects.{Request, denied, getAnswer, actionAnswer, turned}
 use Rattle.model.specs.Calls.{Lent, frame, Outcome, refused, step}
 use Rattle.model.specs.Archive.{numbers}
 use Rattle.hdlc.specs.declared.Head.{Head}
 use Rattle.hdlc.specs.Layout.{frmr, byte, headOf}
 use Rattle.hdlc.specs.Addresses.{addressOf}
-use Rattle.hdlc.specs.Replies.{replyFrame, dmFrame, apduFrame}
+use Rattle.hdlc.specs.Tests.{Side, AllPass, frameTests}
+use Rattle.hdlc.specs.Replies.{replyFrame, uaFrame, dmFrame, apduFrame}
 use Rattle.cosem.specs.declared.Exception.{Exception}
 use Rattle.cosem.specs.Tags.{exceptionBytes}
 use Rattle.acse.specs.Aare.{rejectedAare}
@@ -22,7 +25,7 @@ use Rattle.counters.specs.Advance.{nextCounter}
 use Rattle.counters.specs.Window.{inWindow, accepting}
 use Rattle.envelope.specs.Layout.{sealedEnvelope}
 use Rattle.protocol.specs.Clients.{associates, withCounters, lentKeys, dedicatedKeys}
-use Rattle.protocol.specs.Decide.{accepted, advanced, secretsOf, p2}
+use Rattle.protocol.specs.Decide.{accepted, advanced, secretsOf, answerTag, p2}
 
 -- what the call comes to
 abbrev pub outcome : Lent → Model → Outcome
@@ -42,6 +45,11 @@ SentBy c a = byte (a .received) 4 ≡ addressOf c
 abbrev pub said : ℕ → List ℕ → Line → Model → Outcome
 said n bs l m = record { refusal = n; sent = bs; next = withLine l m }
 
+-- the tags of H's enclosed requests: "GET (V: C0, H: D0) and for H ACTION (D3)"
+pub data Enclosed : ℕ → Type 0 where
+  get : Enclosed 0xD0
+  action : Enclosed 0xD3
+
 -- the answer to a denied request: "result code"
 pub data Denial : List ℕ → Type 0 where
   read : (invoke code : ℕ) → Denial (getAnswer invoke (denied code))
@@ -50,6 +58,15 @@ pub data Denial : List ℕ → Type 0 where
 -- a counter of H that is accepted
 abbrev pub Accepted : ℕ → Line → Type 0
 Accepted n l = inWindow (l .han .counters .accepted) n ≡ true
+
+-- what goes out around an answer to V's request, and around one to H's with this tag: in an envelope, of which the meter's
+-- counter plus one is the counter
+abbrev pub toV : Lent → List ℕ → List ℕ
+toV a text = apduFrame (headIn a) text
+
+abbrev pub toH : Lent → Line → (tag : ℕ) → List ℕ → List ℕ
+toH a l tag text =
+    apduFrame (headIn a) (sealedEnvelope (dedicatedKeys (a .ak) l) (l .title) (answerTag tag) (nextCounter (l .han .counters .sent)) text)
 
 pub data Row (a : Lent) (m : Model) : Outcome → Type 0 where
   -- 1 to 6: both cells are empty
@@ -69,17 +86,25 @@ pub data Row (a : Lent) (m : Model) : Outcome → Type 0 where
   exceptionInside : (e : Exception) (n : ℕ) → SentBy Han a → Accepted n (m .line)
       → Row a m (said 12 (apduFrame (headIn a) (exceptionBytes e)) (accepted n (m .line)) m)
   -- 13: "result code"; "for H, counters advance; a wrong proof ends the association"
-  denial : {text : List ℕ} → SentBy Verification a → Denial text → Row a m (said 13 (apduFrame (headIn a) text) (m .line) m)
-  denialInside : {text : List ℕ} (tag n : ℕ) → SentBy Han a → Accepted n (m .line) → Denial text
-      → Row a m (said 13
-      (apduFrame (headIn a) (sealedEnvelope (dedicatedKeys (a .ak) (m .line)) (m .line .title) tag (nextCounter (m .line .han .counters .sent)) text))
-      (advanced (accepted n (m .line))) m)
+  denial : {text : List ℕ} → SentBy Verification a → Denial text → Row a m (said 13 (toV a text) (m .line) m)
+  denialInside : {text : List ℕ} {tag : ℕ} (n : ℕ) → SentBy Han a → Enclosed tag → Accepted n (m .line) → Denial text
+      → Row a m (said 13 (toH a (m .line) tag text) (advanced (accepted n (m .line))) m)
   wrongProof : (invoke n : ℕ) → SentBy Han a → Accepted n (m .line)
       → Row a m (said 13
-      (apduFrame (headIn a) (sealedEnvelope (lentKeys (secretsOf a)) (m .line .title) 0xCF (nextCounter (m .line .han .counters .sent)) (actionAnswer invoke (denied 250))))
+      (apduFrame (headIn a)
+      (sealedEnvelope (lentKeys (secretsOf a)) (m .line .title) 0xCF (nextCounter (m .line .han .counters .sent)) (actionAnswer invoke (denied 250))))
       (advanced (accepted n (associates Han none (m .line)))) m)
-  -- "an accepted frame answers 0"
-  done : (sent : List ℕ) (next : Model) → Row a m (record { refusal = 0; sent = sent; next = next })
+  -- "an accepted frame answers 0": UA or an APDU of the line, with the line afterwards; or the body's answer to a request
+  links : (after : Line) → Row a m (said 0 (uaFrame (headIn a)) after m)
+  tells : (bs : List ℕ) (after : Line) → Row a m (said 0 (apduFrame (headIn a) bs) after m)
+  grants : (q : Request) → SentBy Verification a → q .client ≡ Verification
+      → Row a m (record { refusal = 0; sent = toV a (turned q (m .body) .bytes); next = record { line = m .line; body = turned q (m .body) .body } })
+  grantsInside : {tag : ℕ} (q : Request) (n : ℕ) → SentBy Han a → Enclosed tag → Accepted n (m .line) → q .client ≡ Han
+      → Row a m (record {
+        refusal = 0;
+        sent = toH a (m .line) tag (turned q (m .body) .bytes);
+        next = record { line = advanced (accepted n (m .line)); body = turned q (m .body) .body };
+      })
 
 -- every frame call is one of the rows
 abbrev pub RowsHold : Type 0
@@ -134,3 +159,20 @@ DeniedBody = (a : Lent) (m : Model) → outcome a m .refusal ≡ 13 → outcome 
 
 abbrev pub DeniedLine : Type 0
 DeniedLine = (a : Lent) (m : Model) → SentBy Han a → outcome a m .refusal ≡ 13 → Advanced (m .line) (outcome a m .next .line)
+
+-- What goes out.
+
+-- a frame whose layout every side accepts, to the sender of the received one, and no longer than "reply room" at least is
+pub record Framed (received sent : List ℕ) : Type 0 where
+  pub layout : (side : Side) → AllPass side sent (take 8 frameTests)
+  pub destination : byte sent 3 ≡ byte received 4
+  pub source : byte sent 4 ≡ byte received 3
+  pub fits : length sent ≤ replyRoom longestSent
+
+-- 0 and 8 to 13: such a frame goes out, of a meter whose title has its 8 bytes
+abbrev pub Answers : Type 0
+Answers =
+    (a : Lent) (m : Model)
+    → length (m .line .title) ≡ 8
+    → listed (outcome a m .refusal) (0 ∷ 8 ∷ 9 ∷ 10 ∷ 11 ∷ 12 ∷ 13 ∷ []) ≡ true
+    → Framed (a .received) (outcome a m .sent)
