@@ -1,20 +1,20 @@
 -- What goes out is a frame: its layout is accepted by every side, its addresses are exchanged, and it is no longer than the
 -- least reply room. `Answers` of specs/Outcomes, proved.
-use mathlib.Core.Path.{_≡_, refl, sym, ap, _∙_}
+use mathlib.Core.Path.{_≡_, refl, ap}
 use mathlib.Core.Bool.{Bool, true, false, cond, not, _&&_, false≢true}
 use mathlib.Core.List.{List, [], _∷_, _++_}
-use Prim.Native.Nat.{ℕ, _+_, _%_, _≤_, _<_}
+use Prim.Native.Nat.{ℕ, _%_, _≤_, _<_}
 use native.Mathlib.Omega.{arith}
 use lib.Dec.{eqb, ltb}
 use lib.ListN.{length, take, drop, length-append}
 use borrow.Author.Tests.{eqb-true, eqb-false, ltb-true}
 use Rattle.model.specs.declared.Client.the-variants.{Verification, Han}
-use Rattle.model.specs.Limits.{longestSent, replyRoom, apduRoom, textRoom, envelopeLength}
+use Rattle.model.specs.Limits.{longestSent, replyRoom, apduRoom, textRoom}
 use Rattle.model.specs.Periods.{listed}
 use Rattle.model.specs.State.{Line, Model}
-use Rattle.model.specs.Objects.{denied, actionAnswer, turned}
+use Rattle.model.specs.Objects.{denied, actionAnswer}
 use Rattle.model.specs.Calls.{Lent, lentRefusal, Outcome, decided}
-use Rattle.model.proofs.LimitFacts.{reply-room, apdu-room, text-room}
+use Rattle.model.proofs.LimitFacts.{apdu-room, text-room}
 use Rattle.model.proofs.ListLaws.{both, neither}
 use Rattle.hdlc.specs.declared.Head.{Head}
 use Rattle.hdlc.specs.declared.Frame.{Frame}
@@ -22,7 +22,7 @@ use Rattle.hdlc.specs.declared.Frame.the-variants.{Unanswered, Rejected, LinkUp
 use Rattle.hdlc.specs.declared.FrameTest.{FrameTest}
 use Rattle.hdlc.specs.declared.FrameTest.the-variants.{EvenAddress}
 use Rattle.hdlc.specs.Layout.{ui, ua, dm, frmr, byte, headOf, frameOf}
-use Rattle.hdlc.specs.Tests.{Side, AllPass, none, more, FirstOf, fails, meterSide, frameTests, numberOf, replyLlc}
+use Rattle.hdlc.specs.Tests.{Side, AllPass, none, more, fails, meterSide, frameTests, numberOf, replyLlc}
 use Rattle.hdlc.specs.Reading.{readFrame}
 use Rattle.hdlc.specs.Replies.{replyFrame, apduFrame, rejectCode}
 use Rattle.hdlc.proofs.LayoutLaws.{length-plain, length-full}
@@ -42,7 +42,7 @@ use Rattle.envelope.proofs.CloseLaws.{length-envelope, envelope-fits}
 use Rattle.protocol.specs.Clients.{selectiveIn, lentKeys}
 use Rattle.protocol.specs.Rulings.{Ruling, decision}
 use Rattle.protocol.specs.Decide.{wrap, accepted, advanced, disproved, heard, around, seal, secretsOf, ruled, p2}
-use Rattle.protocol.specs.Outcomes.{outcome, Enclosed, get, action, Framed, Answers}
+use Rattle.protocol.specs.Outcomes.{Enclosed, get, action, Framed, Answers}
 use Rattle.protocol.proofs.Lengths.{aroundLength, length-around}
 use Rattle.protocol.proofs.Outcomes.{FrameNumber, four, five, eight, nine, frame-number, row-lent}
 use Rattle.protocol.proofs.Ruled as by

@@ -2,20 +2,19 @@
 -- Besides, what a frame with enough lent comes to on a sound meter, by its ruling, for the other statements.
 use mathlib.Core.Path.{_≡_, refl, sym, ap, _∙_}
 use mathlib.Core.Bool.{true, false}
-use mathlib.Core.List.{List, [], _∷_, _++_, append-assoc, append-nil}
+use mathlib.Core.List.{List, [], _∷_, append-assoc, append-nil}
 use Prim.Native.Nat.{ℕ, _+_, _≤_, _<_}
 use native.Mathlib.Omega.{arith}
-use lib.Dec.{eqb}
 use lib.ListN.{length, take, drop, length-append}
 use borrow.Author.Tests.{le-ltb, eq-eqb}
 use Rattle.gf2.specs.Shift.{step as shift, steps}
 use Rattle.wire.specs.Numbers.{numberHigh}
-use Rattle.wire.specs.Reading.{sameBytes, numberAt}
+use Rattle.wire.specs.Reading.{sameBytes}
 use Rattle.wire.proofs.NumberLaws.{number-one}
 use Rattle.wire.proofs.ReadingLaws.{number-here}
 use Rattle.fcs.specs.Check.{checkOf, checkFrom, checkByte, polynomial}
 use Rattle.model.specs.declared.Client.{Client}
-use Rattle.model.specs.declared.Client.the-variants.{Verification, Han}
+use Rattle.model.specs.declared.Client.the-variants.{Verification}
 use Rattle.model.specs.Limits.{longestSent, longestReceived, replyRoom, greatestLength, leastSize}
 use Rattle.model.specs.Services.{offered, common}
 use Rattle.model.specs.State.{associated, Line, Model, withLine, newMeter}
@@ -28,7 +27,7 @@ use Rattle.hdlc.specs.Layout.{byte, headOf, formatOf, hcsOf, informationOf, fcs
 use Rattle.hdlc.specs.Addresses.{senderOf}
 use Rattle.hdlc.specs.Tests.{firstFailing}
 use Rattle.hdlc.specs.Reading.{refused, accepted, readFrame}
-use Rattle.hdlc.specs.Replies.{uaFrame, dmFrame}
+use Rattle.hdlc.specs.Replies.{uaFrame}
 use Rattle.hdlc.proofs.ReadingLaws.{read-told}
 use Rattle.hdlc.proofs.RoundTrip.{request-read, request-apdu}
 use Rattle.cosem.specs.declared.Tag.the-variants.{Aarq}
@@ -44,7 +43,7 @@ use Rattle.protocol.specs.Rulings.{none as noTest, ua, apdu, says, decis
 use Rattle.protocol.specs.Decide.{linkUp, acceptedPlain, conversed, carried, secretsOf, ruled, decide, p2}
 use Rattle.protocol.specs.Examples.{linkUpFrame}
 use Rattle.protocol.specs.Outcomes.{outcome, headIn, said}
-use Rattle.protocol.specs.Lazy.{Enough, requestFrame, aarqOfV, upV, LetIn, LinkUpLetsIn, NewMeterLetsIn, Speaks, LinkUpAnswered}
+use Rattle.protocol.specs.Lazy.{Enough, requestFrame, aarqOfV, LinksUpV, upV, LinkUpLetsIn, NewMeterLetsIn, Speaks, LinkUpAnswered}
 use Rattle.protocol.proofs.Claim.{p2-stays-sound}
 
 -- By the ruling.
@@ -82,10 +81,10 @@ link-up-read : readFrame linkUpFrame ≡ LinkUp Verification (headOf linkUpFrame
 unfolding shift steps sameBytes checkOf checkFrom checkByte polynomial longestReceived greatestLength formatOf hcsOf informationOf fcsOf senderOf firstFailing refused accepted readFrame
 link-up-read = refl
 
-module _ (m : Model) (a : Lent) (s : sound m ≡ true) (p : m .line .p5 ≡ false) (enough : Enough a) (e : a .received ≡ linkUpFrame) where
+module _ (m : Model) (a : Lent) (s : sound m ≡ true) (p : m .line .p5 ≡ false) (enough : Enough a) (e : LinksUpV a) where
   ruled-up : ruled (m .line) a ≡ says noTest (ua (headIn a)) (upV (m .line))
   unfolding ruled linkUp
-  ruled-up = rw (e, link-up-read, p)
+  ruled-up = rw (e, p)
 
   up-outcome : outcome a m ≡ said 0 (uaFrame (headIn a)) (upV (m .line)) m
   up-outcome = outcome-ruled a m enough s ∙ ap (λ r. decided p2 (decision r) m) ruled-up
@@ -143,7 +142,7 @@ link-up-lets-in m up aarq services size s p eight enough₁ enough₂ three two 
 pub new-meter-lets-in : NewMeterLetsIn
 unfolding newMeter
 new-meter-lets-in device title verification han up aarq services size eight enough₁ enough₂ three two least e₁ e₂ =
-    link-up-lets-in (newMeter device title verification han) up aarq services size (new-meter-sound device title verification han) refl eight enough₁ enough₂ three two least e₁ e₂
+    link-up-lets-in (newMeter device title verification han) up aarq services size (new-meter-sound device title verification han) refl eight enough₁ enough₂ three two least (rw e₁ link-up-read) e₂
 
 -- UA is neither nothing nor DM.
 

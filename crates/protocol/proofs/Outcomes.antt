@@ -1,5 +1,5 @@
 -- Every frame call is one of the rows of document 01's table, and the cells follow: specs/Outcomes, proved.
-use mathlib.Core.Path.{_≡_, refl, sym, ap, _∙_}
+use mathlib.Core.Path.{_≡_, refl, ap, _∙_}
 use mathlib.Core.Bool.{Bool, true, false, cond, not, _||_, false≢true}
 use mathlib.Core.List.{List, [], _∷_}
 use Prim.Native.Nat.{ℕ, _≤_, _<_}
@@ -19,9 +19,8 @@ use Rattle.model.specs.Calls.{Lent, lentRefusal, frame as frameCall, Outcome, r
 use Rattle.model.proofs.ListLaws.{both, every-anywhere}
 use Rattle.hdlc.specs.declared.FrameTest.{FrameTest}
 use Rattle.hdlc.specs.declared.FrameTest.the-variants.{ShortFrame, FlagMissing, FrameType, LengthMismatch, LengthEightOrNine, WrongFcs, WrongHcs, EvenAddress, FrmrReceived, OverLength, SegmentBit, PfClear, WrongDestination, WrongSource, UnknownControl, LinkDownWithInformation, ShortInformation, WrongLlc}
-use Rattle.hdlc.specs.declared.Sender.{Sender}
 use Rattle.hdlc.specs.declared.Sender.the-variants.{Known, Unknown}
-use Rattle.hdlc.specs.Layout.{frmr, byte, headOf}
+use Rattle.hdlc.specs.Layout.{frmr, byte}
 use Rattle.hdlc.specs.Addresses.{addressOf, senderOf}
 use Rattle.hdlc.specs.Tests.{numberOf}
 use Rattle.hdlc.specs.Replies.{replyFrame}

@@ -1,6 +1,6 @@
 -- What a frame comes to on a line, told apart by the rows of document 01's table: one walk through the rulings, from which the
 -- statements of specs/Outcomes follow.
-use mathlib.Core.Path.{_≡_, refl, sym, ap, _∙_}
+use mathlib.Core.Path.{_≡_, refl}
 use mathlib.Core.Bool.{Bool, true, false, cond, not, false≢true}
 use mathlib.Core.List.{List, [], _∷_, _++_}
 use Prim.Native.Nat.{ℕ, _≤_, _<_}

@@ -2,46 +2,47 @@
 -- `NextCounter` and `SecondRowRead` of specs/Lazy, proved.
 use mathlib.Core.Path.{_≡_, refl, sym, ap, _∙_}
 use mathlib.Core.Bool.{Bool, true, false, _||_, false≢true}
-use mathlib.Core.List.{List, [], _∷_, _++_}
-use Prim.Native.Nat.{ℕ, _+_, _≤_, _<_}
+use mathlib.Core.List.{List, [], _∷_, flatMap}
+use Prim.Native.Nat.{ℕ, _≤_}
 use native.Mathlib.Omega.{arith}
-use lib.ListN.{length, take}
+use lib.Dec.{lit<, lit≤}
+use lib.ListN.{length, replicate}
 use borrow.Author.Tests.{le-leb}
+use Rattle.wire.specs.Numbers.{lengthField}
 use Rattle.wire.specs.Reading.{sameBytes, skipped, expected, filled, numberAt}
 use Rattle.model.specs.declared.Client.the-variants.{Han}
 use Rattle.model.specs.declared.Clock.{Clock}
-use Rattle.model.specs.Limits.{longestSent, longestReceived, greatestApdu, envelopeLength, dataRoom, maxRows}
-use Rattle.model.specs.Clocks.{validClock}
-use Rattle.model.specs.Periods.{captureDue}
-use Rattle.model.specs.State.{Association, none, pending, associated, Line, Entry, Body, Model}
-use Rattle.model.specs.Soundness.{isNone, associationOnLink, onLink, linksStand, sound}
-use Rattle.model.specs.Objects.{Request, Turn, granted, rowsData, attributeData, fitting, attributeRead, getAnswer, turned}
+use Rattle.model.specs.Limits.{longestSent, longestReceived, replyRoom, greatestApdu, envelopeLength, dataRoom, maxRows, maxRegisters, maxColumns}
+use Rattle.model.specs.Clocks.{februaryDays, daysIn, realDate, realTime, fixedBytes, validClock}
+use Rattle.model.specs.Periods.{periods, captureDue}
+use Rattle.model.specs.Services.{within}
+use Rattle.model.specs.State.{Association, none, pending, associated, Line, Entry, Body, Model, withLine, newPeer, noCounters, newClock, newMeter}
+use Rattle.model.specs.Soundness.{acceptedRegisters, acceptedColumns, isNone, associationOnLink, onLink, sound}
+use Rattle.model.specs.Objects.{Request, Turn, granted, rowData, rowsData, attributeData, fitting, attributeRead, getAnswer, turned}
 use Rattle.model.specs.Calls.{Lent, tick, Outcome, captured, serve, decided, step}
-use Rattle.model.specs.Archive.{rowsOf, dueRow}
+use Rattle.model.specs.Archive.{rowsOf}
+use Rattle.model.proofs.LimitFacts.{data-room}
 use Rattle.model.proofs.ListLaws.{both}
 use Rattle.model.proofs.SoundnessLaws.{sound-passes}
 use Rattle.hdlc.specs.declared.Head.{Head}
-use Rattle.cosem.specs.declared.Tag.the-variants.{DedGetRequest, DedActionRequest}
 use Rattle.cosem.specs.declared.Wanted.the-variants.{Read}
 use Rattle.cosem.specs.declared.Asked.{Asked}
 use Rattle.cosem.specs.declared.Reading.the-variants.{Asks}
 use Rattle.cosem.specs.Tags.{tagOf, tagIn}
 use Rattle.cosem.specs.Requests.{optionalPart, readGet, nameIn, requested}
 use Rattle.counters.specs.Advance.{taken}
-use Rattle.counters.specs.Window.{accepting}
+use Rattle.counters.specs.Window.{inWindow, accepting}
 use Rattle.envelope.specs.declared.Keys.{Keys}
 use Rattle.envelope.specs.Layout.{head, sealedEnvelope}
-use Rattle.envelope.specs.Opening.{longestApdu, opens, opened}
+use Rattle.envelope.specs.Opening.{longestApdu}
 use Rattle.envelope.proofs.CloseLaws.{length-envelope, envelope-size}
 use Rattle.envelope.proofs.RoundTrip.{opens-closed}
-use Rattle.meter.specs.SameSecond.{nextRow}
 use Rattle.meter.proofs.SameSecond.{afterDue, due-step, two-more, two-rows}
-use Rattle.protocol.specs.declared.Secrets.{Secrets}
-use Rattle.protocol.specs.Clients.{selectiveIn, dedicatedKeys, agreedIn, isAssociated, bitAgreed}
+use Rattle.protocol.specs.Clients.{selectiveIn, dedicatedKeys, isAssociated}
 use Rattle.protocol.specs.Rulings.{Ruling, asks, decision}
-use Rattle.protocol.specs.Decide.{wrap, accepted, advanced, readInside, requestEnclosed, conversed, carried, around, seal, secretsOf, ruled, p2}
-use Rattle.protocol.specs.Outcomes.{outcome, headIn, Enclosed, get, action, Accepted, toH}
-use Rattle.protocol.specs.Lazy.{Enough, requestFrame, Asking, NextCounter, twice, bothRows, getProfile, SecondRowRead}
+use Rattle.protocol.specs.Decide.{wrap, accepted, advanced, readInside, requestEnclosed, conversed, carried, around, seal, secretsOf, p2}
+use Rattle.protocol.specs.Outcomes.{headIn, Enclosed, get, action, toH}
+use Rattle.protocol.specs.Lazy.{requestFrame, Asking, NextCounter, twice, bothRows, getProfile, SecondRowRead, SecondRowHappens}
 use Rattle.protocol.proofs.Claim.{p2-stays-sound}
 use Rattle.protocol.proofs.LinkUp.{outcome-ruled, ruled-request, tag-first}
 
@@ -155,3 +156,71 @@ second-row-read a m t counter invoke s v d k fits =
     rw (twice-due t m s v d)
     (next-counter a n 0xD0 counter (getProfile invoke) (profileAsked invoke) twice-sound get k (profile-asked invoke)
     ∙ ap (λ (x : Turn). record { refusal = x .refusal; sent = toH a (m .line) 0xD0 (x .bytes); next = record { line = advanced (accepted counter (m .line)); body = x .body } }) read)
+
+-- A new meter with an associated H, at its first clock.
+
+abbrev someLine : Line
+someLine =
+    record {
+      title = replicate 8 0;
+      verification = newPeer (replicate 8 0);
+      han = record { peer = record { title = replicate 8 0; up = true; association = associated (0x00 ∷ 0x00 ∷ 0x15 ∷ []) (replicate 16 0) }; counters = noCounters };
+      p5 = false;
+    }
+
+abbrev someMeter : Model
+someMeter = withLine someLine (newMeter (replicate 16 0) (replicate 8 0) (replicate 8 0) (replicate 8 0))
+
+abbrev someLent : Lent
+someLent =
+    record {
+      room = replyRoom longestSent;
+      guk = replicate 16 0;
+      ak = replicate 16 0;
+      challenge = replicate 8 0;
+      received = requestFrame Han (sealedEnvelope (dedicatedKeys (replicate 16 0) someLine) (replicate 8 0) 0xD0 1 (getProfile 0));
+    }
+
+some-sound : sound someMeter ≡ true
+unfolding sound newMeter acceptedRegisters acceptedColumns validClock realDate realTime fixedBytes daysIn februaryDays periods maxRows maxRegisters maxColumns within
+some-sound = refl
+
+some-valid : validClock newClock ≡ true
+unfolding validClock realDate realTime fixedBytes daysIn februaryDays
+some-valid = refl
+
+some-due : captureDue (someMeter .body .period) newClock ≡ true
+unfolding newMeter captureDue
+some-due = refl
+
+some-asks : Asking someLent someLine 0xD0 1 (getProfile 0)
+unfolding tagOf within inWindow envelopeLength lengthField greatestApdu longestReceived
+some-asks =
+    record {
+      enough = record { room = omega arith; guk = refl; ak = refl; challenge = refl };
+      associated = refl;
+      agreed = refl;
+      window = refl;
+      small = lit< tt;
+      short = lit≤ tt;
+      received = refl;
+    }
+
+some-fits : length (rowsData (bothRows newClock someMeter)) ≤ dataRoom longestSent
+unfolding newMeter maxRows rowsData rowData flatMap lengthField
+some-fits = rw data-room (lit≤ tt)
+
+pub second-row-happens : SecondRowHappens
+second-row-happens =
+    record {
+      lent = someLent;
+      meter = someMeter;
+      clock = newClock;
+      counter = 1;
+      invoke = 0;
+      isSound = some-sound;
+      isValid = some-valid;
+      isDue = some-due;
+      asks = some-asks;
+      fits = some-fits;
+    }

@@ -1,7 +1,8 @@
 -- The lazy meters that document 01 names ("What the contracts owe the archive"), each shut out by what its calls come to: "the
 -- meter that is always silent, the one that answers DM to all, the one that leaves its state unchanged (a link-up must let an
 -- AARQ in), the one that takes the first row and only pretends at the second, and one with an invented record number or
--- counter". Proved in proofs/LinkUp and proofs/SecondRow. The record number is `NumberStays` of the model.
+-- counter". Proved in proofs/LinkUp and proofs/SecondRow. Of the record number speak `DueTicks` and `NumberStays` of the
+-- model, proved at this protocol in proofs/Claim.
 use mathlib.Core.Path.{_≡_}
 use mathlib.Core.Bool.{true, false}
 use mathlib.Core.List.{List, [], _∷_, _++_}
@@ -21,9 +22,11 @@ use Rattle.model.specs.Objects.{granted, rowsData, getAnswer, turned}
 use Rattle.model.specs.Calls.{Lent, tick, step}
 use Rattle.model.specs.Archive.{rowsOf, dueRow}
 use Rattle.hdlc.specs.declared.Head.{Head}
+use Rattle.hdlc.specs.declared.Frame.the-variants.{LinkUp}
 use Rattle.hdlc.specs.Layout.{ui, frameOf}
 use Rattle.hdlc.specs.Addresses.{meterAddress, addressOf}
 use Rattle.hdlc.specs.Tests.{requestLlc}
+use Rattle.hdlc.specs.Reading.{readFrame}
 use Rattle.hdlc.specs.Replies.{uaFrame, dmFrame, apduFrame}
 use Rattle.cosem.specs.declared.Asked.{Asked}
 use Rattle.cosem.specs.declared.Reading.the-variants.{Asks}
@@ -64,6 +67,10 @@ aarqOfV title services size =
     ++ services
     ++ size
 
+-- a link-up of V without information
+abbrev pub LinksUpV : Lent → Type 0
+LinksUpV a = readFrame (a .received) ≡ LinkUp Verification (headIn a) false
+
 -- the line with V's link up
 abbrev pub upV : Line → Line
 upV l = withPeer Verification (linked true (l .verification)) l
@@ -88,11 +95,11 @@ LinkUpLetsIn =
     → length services ≡ 3
     → length size ≡ 2
     → leastSize longestSent ≤ numberHigh size
-    → up .received ≡ linkUpFrame
+    → LinksUpV up
     → aarq .received ≡ requestFrame Verification (aarqOfV (m .line .verification .title) services size)
     → LetIn m up aarq services
 
--- and so on a new one
+-- and so on a new one, by the frame of marked example 2
 abbrev pub NewMeterLetsIn : Type 0
 NewMeterLetsIn =
     (device title verification han : List ℕ) (up aarq : Lent) (services size : List ℕ)
@@ -117,7 +124,7 @@ LinkUpAnswered =
     → sound m ≡ true
     → m .line .p5 ≡ false
     → Enough up
-    → up .received ≡ linkUpFrame
+    → LinksUpV up
     → Speaks (outcome up m .sent)
 
 -- "An invented counter": every request of H that is opened and read.
@@ -178,3 +185,16 @@ SecondRowRead =
       sent = toH a (m .line) 0xD0 (getAnswer invoke (granted (rowsData (bothRows t m))));
       next = record { line = advanced (accepted counter (m .line)); body = twice t m .body };
     }
+
+-- and there is such a meter, clock and frame
+pub record SecondRowHappens : Type 0 where
+  pub lent : Lent
+  pub meter : Model
+  pub clock : Clock
+  pub counter : ℕ
+  pub invoke : ℕ
+  pub isSound : sound meter ≡ true
+  pub isValid : validClock clock ≡ true
+  pub isDue : captureDue (meter .body .period) clock ≡ true
+  pub asks : Asking lent (meter .line) 0xD0 counter (getProfile invoke)
+  pub fits : length (rowsData (bothRows clock meter)) ≤ dataRoom longestSent
