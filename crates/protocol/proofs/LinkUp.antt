@@ -40,10 +40,10 @@ use Rattle.acse.proofs.AarqLaws.{plain-accepted, services-there}
 use Rattle.protocol.specs.declared.Secrets.{Secrets}
 use Rattle.protocol.specs.Clients.{associates}
 use Rattle.protocol.specs.Rulings.{none as noTest, ua, apdu, says, decision}
-use Rattle.protocol.specs.Decide.{linkUp, acceptedPlain, conversed, carried, secretsOf, ruled, decide, p2}
+use Rattle.protocol.specs.Decide.{heldByP5, linkUp, acceptedPlain, conversed, carried, secretsOf, ruled, decide, p2}
 use Rattle.protocol.specs.Examples.{linkUpFrame}
 use Rattle.protocol.specs.Outcomes.{outcome, headIn, said}
-use Rattle.protocol.specs.Lazy.{Enough, requestFrame, aarqOfV, LinksUpV, upV, LinkUpLetsIn, NewMeterLetsIn, Speaks, LinkUpAnswered}
+use Rattle.protocol.specs.Lazy.{Enough, requestFrame, aarqOfV, LinksUp, up, LinkUpLetsIn, NewMeterLetsIn, Speaks, LinkUpAnswered}
 use Rattle.protocol.proofs.Claim.{p2-stays-sound}
 
 -- By the ruling.
@@ -81,15 +81,15 @@ link-up-read : readFrame linkUpFrame ≡ LinkUp Verification (headOf linkUpFrame
 unfolding shift steps sameBytes checkOf checkFrom checkByte polynomial longestReceived greatestLength formatOf hcsOf informationOf fcsOf senderOf firstFailing refused accepted readFrame
 link-up-read = refl
 
-module _ (m : Model) (a : Lent) (s : sound m ≡ true) (p : m .line .p5 ≡ false) (enough : Enough a) (e : LinksUpV a) where
-  ruled-up : ruled (m .line) a ≡ says noTest (ua (headIn a)) (upV (m .line))
+module _ (c : Client) (m : Model) (a : Lent) (s : sound m ≡ true) (p : heldByP5 c (m .line) ≡ false) (enough : Enough a) (e : LinksUp c a) where
+  ruled-up : ruled (m .line) a ≡ says noTest (ua (headIn a)) (up c (m .line))
   unfolding ruled linkUp
   ruled-up = rw (e, p)
 
-  up-outcome : outcome a m ≡ said 0 (uaFrame (headIn a)) (upV (m .line)) m
+  pub up-outcome : outcome a m ≡ said 0 (uaFrame (headIn a)) (up c (m .line)) m
   up-outcome = outcome-ruled a m enough s ∙ ap (λ r. decided p2 (decision r) m) ruled-up
 
-  up-sound : sound (withLine (upV (m .line)) m) ≡ true
+  pub up-sound : sound (withLine (up c (m .line)) m) ≡ true
   up-sound = ap (λ (o : Outcome). sound (o .next)) (sym up-outcome) ∙ p2-stays-sound (frameCall a) m s
 
 -- The AARQ.
@@ -119,30 +119,30 @@ module _ (title services size : List ℕ) where
 
     -- on a line with V's link up and no association
     aarq-carried : (l : Line) (a : Secrets) (h : Head) → l .verification .title ≡ title
-        → carried (upV l) a Verification h (aarqOfV title services size) ≡ says noTest (apdu h (plainAare Verification (l .title) agreed)) (associates Verification (associated agreed []) (upV l))
+        → carried (up Verification l) a Verification h (aarqOfV title services size) ≡ says noTest (apdu h (plainAare Verification (l .title) agreed)) (associates Verification (associated agreed []) (up Verification l))
     unfolding carried conversed acceptedPlain
     aarq-carried l a h e = rw (tag-aarq, e, aarq-read, aarq-services)
 
 pub link-up-lets-in : LinkUpLetsIn
 unfolding longestReceived
-link-up-lets-in m up aarq services size s p eight enough₁ enough₂ three two least e₁ e₂ =
+link-up-lets-in m link aarq services size s p eight enough₁ enough₂ three two least e₁ e₂ =
     let title = m .line .verification .title in
     let apdu = aarqOfV title services size in
-    let first = up-outcome m up s p enough₁ e₁ in
+    let first = up-outcome Verification m link s p enough₁ e₁ in
     let long = length-aarq title services size eight three two in
-    let r = ruled-request (upV (m .line)) aarq Verification apdu e₂ (omega arith) (omega arith) ∙ aarq-carried title services size eight three two least (m .line) (secretsOf aarq) (headIn aarq) refl in
+    let r = ruled-request (up Verification (m .line)) aarq Verification apdu e₂ (omega arith) (omega arith) ∙ aarq-carried title services size eight three two least (m .line) (secretsOf aarq) (headIn aarq) refl in
     record {
       first = first;
       second =
           ap (λ (o : Outcome). outcome aarq (o .next)) first
-          ∙ outcome-ruled aarq (withLine (upV (m .line)) m) enough₂ (up-sound m up s p enough₁ e₁)
-          ∙ ap (λ r. decided p2 (decision r) (withLine (upV (m .line)) m)) r;
+          ∙ outcome-ruled aarq (withLine (up Verification (m .line)) m) enough₂ (up-sound Verification m link s p enough₁ e₁)
+          ∙ ap (λ r. decided p2 (decision r) (withLine (up Verification (m .line)) m)) r;
     }
 
 pub new-meter-lets-in : NewMeterLetsIn
 unfolding newMeter
-new-meter-lets-in device title verification han up aarq services size eight enough₁ enough₂ three two least e₁ e₂ =
-    link-up-lets-in (newMeter device title verification han) up aarq services size (new-meter-sound device title verification han) refl eight enough₁ enough₂ three two least (rw e₁ link-up-read) e₂
+new-meter-lets-in device title verification han link aarq services size eight enough₁ enough₂ three two least e₁ e₂ =
+    link-up-lets-in (newMeter device title verification han) link aarq services size (new-meter-sound device title verification han) refl eight enough₁ enough₂ three two least (rw e₁ link-up-read) e₂
 
 -- UA is neither nothing nor DM.
 
@@ -158,4 +158,4 @@ ua-speaks h =
     }
 
 pub link-up-answered : LinkUpAnswered
-link-up-answered m up s p enough e = rw (up-outcome m up s p enough e) (ua-speaks (headIn up))
+link-up-answered m link s p enough e = rw (up-outcome Verification m link s p enough e) (ua-speaks (headIn link))

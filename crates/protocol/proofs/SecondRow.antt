@@ -58,7 +58,7 @@ up-of l k e = go (l .han .peer .up) (l .han .peer .association) k e
     go false (pending ag k d m) p q = absurd (false≢true q)
     go false (associated ag k) p q = absurd (false≢true p)
 
-tag-sealed : (k : Keys) (title : List ℕ) (tag counter : ℕ) (text : List ℕ) → tagIn (sealedEnvelope k title tag counter text) ≡ tagOf tag
+pub tag-sealed : (k : Keys) (title : List ℕ) (tag counter : ℕ) (text : List ℕ) → tagIn (sealedEnvelope k title tag counter text) ≡ tagOf tag
 unfolding sealedEnvelope head
 tag-sealed k title tag counter text = tag-first tag _
 
