@@ -9,4 +9,4 @@ pub mod Outcomes
 pub mod Framed
 pub mod LinkUp
 pub mod SecondRow
-pub mod HanEntry
+pub mod HanEntrance

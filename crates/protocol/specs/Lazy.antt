@@ -1,7 +1,7 @@
 -- The lazy meters that document 01 names ("What the contracts owe the archive"), each shut out by what its calls come to: "the
 -- meter that is always silent, the one that answers DM to all, the one that leaves its state unchanged (a link-up must let an
 -- AARQ in), the one that takes the first row and only pretends at the second, and one with an invented record number or
--- counter". Proved in proofs/LinkUp, proofs/HanEntry and proofs/SecondRow. Of the record number speak `DueTicks` and `NumberStays` of the
+-- counter". Proved in proofs/LinkUp, proofs/HanEntrance and proofs/SecondRow. Of the record number speak `DueTicks` and `NumberStays` of the
 -- model, proved at this protocol in proofs/Claim.
 use mathlib.Core.Path.{_≡_}
 use mathlib.Core.Bool.{true, false}
@@ -16,7 +16,7 @@ use Rattle.model.specs.Limits.{longestSent, longestReceived, replyRoom, envelop
 use Rattle.model.specs.Clocks.{validClock}
 use Rattle.model.specs.Periods.{captureDue}
 use Rattle.model.specs.Services.{offered, common}
-use Rattle.model.specs.State.{associated, Line, Model, Entry as Row, withLine, newMeter}
+use Rattle.model.specs.State.{associated, Line, Model, Entry, withLine, newMeter}
 use Rattle.model.specs.Soundness.{sound}
 use Rattle.model.specs.Objects.{granted, rowsData, getAnswer, turned}
 use Rattle.model.specs.Calls.{Lent, tick, step}
@@ -158,7 +158,7 @@ proofOfH invoke proof =
 
 -- what H sends: its dedicated key and challenge, its services and size, the counters of its AARQ, of its proof and of the
 -- envelope around that, and the invoke byte
-pub record Entry : Type 0 where
+pub record Entrance : Type 0 where
   pub key : List ℕ
   pub challenge : List ℕ
   pub services : List ℕ
@@ -170,7 +170,7 @@ pub record Entry : Type 0 where
 
 -- of the right lengths, a size that is enough, and counters that are allowed: "greater than the last accepted by at most 180";
 -- "the inner .. above the last accepted and below the envelope's"
-pub record Allowed (e : Entry) : Type 0 where
+pub record Allowed (e : Entrance) : Type 0 where
   pub key : length (e .key) ≡ 16
   pub challenge : length (e .challenge) ≡ 8
   pub services : length (e .services) ≡ 3
@@ -182,7 +182,7 @@ pub record Allowed (e : Entry) : Type 0 where
   pub small : e .outer < 256 ^ 4
 
 -- the three frames, by H's title; the second is lent the challenge that the third answers
-pub record Enters (title : List ℕ) (e : Entry) (link aarq proof : Lent) : Type 0 where
+pub record Enters (title : List ℕ) (e : Entrance) (link aarq proof : Lent) : Type 0 where
   pub links : LinksUp Han link
   pub asks :
       aarq .received
@@ -196,7 +196,7 @@ pub record Enters (title : List ℕ) (e : Entry) (link aarq proof : Lent) : Type
       (proofOfH (e .invoke) (proofValue (lentKeys (secretsOf proof)) title (aarq .challenge) (e .inner))))
 
 -- each is accepted; then H is associated with the services agreed and its key, and three counters have been taken
-pub record LetInH (m : Model) (e : Entry) (link aarq proof : Lent) : Type 0 where
+pub record LetInH (m : Model) (e : Entrance) (link aarq proof : Lent) : Type 0 where
   pub first : outcome link m ≡ said 0 (uaFrame (headIn link)) (up Han (m .line)) m
   pub second : outcome aarq (outcome link m .next) .refusal ≡ 0
   pub third : outcome proof (outcome aarq (outcome link m .next) .next) .refusal ≡ 0
@@ -209,7 +209,7 @@ pub record LetInH (m : Model) (e : Entry) (link aarq proof : Lent) : Type 0 wher
 
 abbrev pub HanLetIn : Type 0
 HanLetIn =
-    (m : Model) (e : Entry) (link aarq proof : Lent)
+    (m : Model) (e : Entrance) (link aarq proof : Lent)
     → sound m ≡ true
     → length (m .line .han .peer .title) ≡ 8
     → Enough link
@@ -254,7 +254,7 @@ abbrev pub twice : Clock → Model → Model
 twice t m = step p2 (tick t) (step p2 (tick t) m .next) .next
 
 -- both rows, and the older ones, of which at most thirteen are kept
-abbrev pub bothRows : Clock → Model → List Row
+abbrev pub bothRows : Clock → Model → List Entry
 bothRows t m = nextRow (dueRow t (m .body)) ∷ dueRow t (m .body) ∷ take (maxRows - 2) (rowsOf m)
 
 -- a GET of attribute 2 of the profile, with this invoke byte: class 7, 0.0.21.0.6.255

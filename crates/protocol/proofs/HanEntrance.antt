@@ -53,7 +53,7 @@ use Rattle.protocol.specs.Clients.{associates, withCounters, lentKeys}
 use Rattle.protocol.specs.Rulings.{Ruling, decision}
 use Rattle.protocol.specs.Decide.{acceptedCiphered, isChallenge, proofIn, provesItself, proved, challenged, challengeEnclosed, conversed, carried, secretsOf, p2}
 use Rattle.protocol.specs.Outcomes.{outcome, headIn}
-use Rattle.protocol.specs.Lazy.{Enough, up, initiateOfH, aarqOfH, proofOfH, Entry, Allowed, Enters, LetInH, HanLetIn}
+use Rattle.protocol.specs.Lazy.{Enough, up, initiateOfH, aarqOfH, proofOfH, Entrance, Allowed, Enters, LetInH, HanLetIn}
 use Rattle.protocol.proofs.Claim.{p2-stays-sound}
 use Rattle.protocol.proofs.LinkUp.{outcome-ruled, ruled-request, tag-first, up-outcome, up-sound}
 use Rattle.protocol.proofs.SecondRow.{tag-sealed}
@@ -255,12 +255,12 @@ module _ (l : Line) (a : Secrets) (h : Head) {agreed key client meter : List ℕ
       )
 
 -- the line after the AARQ
-abbrev asked-line : Line → Entry → (challenge : List ℕ) → Line
+abbrev asked-line : Line → Entrance → (challenge : List ℕ) → Line
 asked-line l e challenge =
     withCounters (taken (accepting (l .han .counters) (e .first)) .counters)
     (associates Han (pending (common (e .services) (offered Han)) (e .key) (e .challenge) challenge) (up Han l))
 
-module _ (m : Model) (e : Entry) (link aarq proof : Lent) (s : sound m ≡ true) (eight : length (m .line .han .peer .title) ≡ 8) (enough₁ : Enough link) (enough₂ : Enough aarq) (enough₃ : Enough proof) (ok : Allowed e) (enters : Enters (m .line .han .peer .title) e link aarq proof) where
+module _ (m : Model) (e : Entrance) (link aarq proof : Lent) (s : sound m ≡ true) (eight : length (m .line .han .peer .title) ≡ 8) (enough₁ : Enough link) (enough₂ : Enough aarq) (enough₃ : Enough proof) (ok : Allowed e) (enters : Enters (m .line .han .peer .title) e link aarq proof) where
   abbrev l : Line
   l = m .line
 
