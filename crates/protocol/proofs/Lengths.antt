@@ -18,10 +18,10 @@ use Rattle.protocol.specs.Clients.{dedicatedKeys}
 use Rattle.protocol.specs.Decide.{answerTag, around, seal, p2}
 
 -- the bytes around an answer of n bytes: none for V, an envelope for H
-pub aroundLength : Wrap → ℕ → ℕ
+unfoldable pub aroundLength : Wrap → ℕ → ℕ
 aroundLength w n = cond (eqb (w .tag) 0xC0) n (envelopeLength n)
 
-length-around : (l : Line) (w : Wrap) (text : List ℕ) → length (around l w text) ≡ aroundLength w (length text)
+pub length-around : (l : Line) (w : Wrap) (text : List ℕ) → length (around l w text) ≡ aroundLength w (length text)
 unfolding around aroundLength
 length-around l w text = go (eqb (w .tag) 0xC0)
   where

@@ -3,3 +3,10 @@ pub mod Numbers
 pub mod Lines
 pub mod Examples
 pub mod Claim
+pub mod Ruled
+pub mod Turns
+pub mod Outcomes
+pub mod Framed
+pub mod LinkUp
+pub mod SecondRow
+pub mod HanEntrance

@@ -3,3 +3,5 @@ pub mod Rulings
 pub mod Decide
 pub mod Examples
 pub mod Claim
+pub mod Outcomes
+pub mod Lazy

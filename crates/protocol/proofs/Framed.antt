@@ -1,0 +1,222 @@
+-- What goes out is a frame: its layout is accepted by every side, its addresses are exchanged, and it is no longer than the
+-- least reply room. `Answers` of specs/Outcomes, proved.
+use mathlib.Core.Path.{_≡_, refl, ap}
+use mathlib.Core.Bool.{Bool, true, false, cond, not, _&&_, false≢true}
+use mathlib.Core.List.{List, [], _∷_, _++_}
+use Prim.Native.Nat.{ℕ, _%_, _≤_, _<_}
+use native.Mathlib.Omega.{arith}
+use lib.Dec.{eqb, ltb}
+use lib.ListN.{length, take, drop, length-append}
+use borrow.Author.Tests.{eqb-true, eqb-false, ltb-true}
+use Rattle.model.specs.declared.Client.the-variants.{Verification, Han}
+use Rattle.model.specs.Limits.{longestSent, replyRoom, apduRoom, textRoom}
+use Rattle.model.specs.Periods.{listed}
+use Rattle.model.specs.State.{Line, Model}
+use Rattle.model.specs.Objects.{denied, actionAnswer}
+use Rattle.model.specs.Calls.{Lent, lentRefusal, Outcome, decided}
+use Rattle.model.proofs.LimitFacts.{apdu-room, text-room}
+use Rattle.model.proofs.ListLaws.{both, neither}
+use Rattle.hdlc.specs.declared.Head.{Head}
+use Rattle.hdlc.specs.declared.Frame.{Frame}
+use Rattle.hdlc.specs.declared.Frame.the-variants.{Unanswered, Rejected, LinkUp, LinkDown, Apdu}
+use Rattle.hdlc.specs.declared.FrameTest.{FrameTest}
+use Rattle.hdlc.specs.declared.FrameTest.the-variants.{EvenAddress}
+use Rattle.hdlc.specs.Layout.{ui, ua, dm, frmr, byte, headOf, frameOf}
+use Rattle.hdlc.specs.Tests.{Side, AllPass, none, more, fails, meterSide, frameTests, numberOf, replyLlc}
+use Rattle.hdlc.specs.Reading.{readFrame}
+use Rattle.hdlc.specs.Replies.{replyFrame, apduFrame, rejectCode}
+use Rattle.hdlc.proofs.LayoutLaws.{length-plain, length-full}
+use Rattle.hdlc.proofs.TestLaws.{passes-in}
+use Rattle.hdlc.proofs.ReadingLaws.{Told, read-told}
+use Rattle.hdlc.proofs.RoundTrip.{ReadBack, read-back}
+use Rattle.cosem.specs.declared.Exception.{Exception}
+use Rattle.cosem.specs.declared.Exception.the-variants.{ServiceNotAllowed, ServiceUnknown}
+use Rattle.cosem.specs.Tags.{exceptionBytes}
+use Rattle.cosem.specs.Requests.{requested}
+use Rattle.acse.specs.Aare.{rejectedAare}
+use Rattle.acse.proofs.Layouts.{length-rejected}
+use Rattle.counters.specs.Advance.{taken}
+use Rattle.counters.specs.Window.{accepting}
+use Rattle.envelope.specs.Layout.{sealedEnvelope}
+use Rattle.envelope.proofs.CloseLaws.{length-envelope, envelope-fits}
+use Rattle.protocol.specs.Clients.{selectiveIn, lentKeys}
+use Rattle.protocol.specs.Rulings.{Ruling, decision}
+use Rattle.protocol.specs.Decide.{wrap, accepted, advanced, disproved, heard, around, seal, secretsOf, ruled, p2}
+use Rattle.protocol.specs.Outcomes.{Enclosed, get, action, Framed, Answers}
+use Rattle.protocol.proofs.Lengths.{aroundLength, length-around}
+use Rattle.protocol.proofs.Outcomes.{FrameNumber, four, five, eight, nine, frame-number, row-lent}
+use Rattle.protocol.proofs.Ruled as by
+use Rattle.protocol.proofs.Turns.{turned-fits}
+
+-- Addresses: a frame that is answered has passed the tests of refusal 4, and so its addresses are odd.
+
+pub record Odd (f : List ℕ) : Type 0 where
+  pub destination : byte f 3 % 2 ≡ 1
+  pub source : byte f 4 % 2 ≡ 1
+
+odd-passed : (f : List ℕ) → fails meterSide EvenAddress f ≡ false → Odd f
+odd-passed f e =
+    let n = neither (eqb (byte f 3 % 2) 0) (eqb (byte f 4 % 2) 0) e in
+    let d = eqb-false (byte f 3 % 2) 0 (n .0) in
+    let s = eqb-false (byte f 4 % 2) 0 (n .1) in
+    record { destination = odd (byte f 3) d; source = odd (byte f 4) s }
+  where
+    odd : (n : ℕ) → (n % 2 ≡ 0 → ⊥) → n % 2 ≡ 1
+    odd n h = go (eqb (n % 2) 0) refl
+      where
+        go : (b : Bool) → eqb (n % 2) 0 ≡ b → n % 2 ≡ 1
+        go true q = absurd (h (eqb-true (n % 2) 0 q))
+        go false q = omega (arith, eqb-false (n % 2) 0 q)
+
+-- the tests of a stretch all belong to refusals below 8
+abbrev allLow : List FrameTest → Bool
+allLow [] = true
+allLow (t ∷ ts) = ltb (numberOf t) 8 && allLow ts
+
+-- a frame whose first failing test belongs to refusal 8 or 9 passes such a stretch
+stretch-passes : (r : Side) (f : List ℕ) (xs ys before after : List FrameTest) (t : FrameTest) → xs ++ ys ≡ before ++ t ∷ after → allLow xs ≡ true → 8 ≤ numberOf t → AllPass r f before → AllPass r f xs
+stretch-passes r f [] ys before after t e k h p = none
+stretch-passes r f (x ∷ xs) ys [] after t e k h p =
+    let z : x ≡ t = cc in
+    absurd (omega (arith, ltb-true (numberOf x) 8 (both (ltb (numberOf x) 8) (allLow xs) k .0), ap numberOf z))
+stretch-passes r f (x ∷ xs) ys (b ∷ before) after t e k h (more _ q p) =
+    let z : b ≡ x = cc in
+    let rest : xs ++ ys ≡ before ++ t ∷ after = cc in
+    more x (rw z at q) (stretch-passes r f xs ys before after t rest (both (ltb (numberOf x) 8) (allLow xs) k .1) h p)
+
+abbrev firstEight : List FrameTest
+firstEight = take 8 frameTests
+
+-- something goes out for the frame
+abbrev IsAnswered : Frame → Type 0
+IsAnswered (Unanswered t) = ⊥
+IsAnswered (Rejected t h) = Unit {0}
+IsAnswered (LinkUp c h i) = Unit {0}
+IsAnswered (LinkDown c h) = Unit {0}
+IsAnswered (Apdu c h start end) = Unit {0}
+
+module _ (f : List ℕ) where
+  odd-all : AllPass meterSide f frameTests → Odd f
+  odd-all p = odd-passed f (passes-in meterSide f (take 7 frameTests) (drop 8 frameTests) EvenAddress p)
+
+  odd-told : (x : Frame) → Told f x → IsAnswered x → Odd f
+  odd-told (Unanswered t) told n = absurd n
+  odd-told (Rejected t g) told n =
+      let first = told .1 in
+      odd-passed f
+      (passes-in meterSide f (take 7 frameTests) [] EvenAddress
+      (stretch-passes meterSide f firstEight (drop 8 frameTests) (first .before) (first .after) t (first .order) refl (told .0) (first .passed)))
+  odd-told (LinkUp c g i) told n = odd-all (told .0 .passes)
+  odd-told (LinkDown c g) told n = odd-all (told .0 .passes)
+  odd-told (Apdu c g start end) told n = odd-all (told .0 .passes)
+
+-- Replies.
+
+framed-length : (d s c : ℕ) (i : List ℕ) → length i ≤ longestSent → length (frameOf d s c i) ≤ replyRoom longestSent
+unfolding longestSent replyRoom
+framed-length d s c [] h = omega (arith, length-plain d s c)
+framed-length d s c (x ∷ xs) h = omega (arith, length-full d s c (x ∷ xs) (omega arith))
+
+length-exception : (e : Exception) → length (exceptionBytes e) ≤ apduRoom longestSent
+length-exception ServiceNotAllowed = omega (arith, apdu-room)
+length-exception ServiceUnknown = omega (arith, apdu-room)
+
+three-fit : 3 ≤ longestSent
+unfolding longestSent
+three-fit = omega arith
+
+module _ (f : List ℕ) (odd : Odd f) where
+  framed-reply : (c : ℕ) (i : List ℕ) → length i ≤ longestSent → Framed f (replyFrame (headOf f) c i)
+  unfolding longestSent
+  framed-reply c i h =
+      let back : (r : Side) → ReadBack r (replyFrame (headOf f) c i) (byte f 4) (byte f 3) c i = λ r. read-back r (byte f 4) (byte f 3) c i (odd .source) (odd .destination) (omega arith) in
+      record {
+        layout = λ r. back r .passes;
+        destination = ap (λ (h : Head). h .destination) (back meterSide .head);
+        source = ap (λ (h : Head). h .source) (back meterSide .head);
+        fits = framed-length (byte f 4) (byte f 3) c i h;
+      }
+
+  framed-apdu : (bs : List ℕ) → length bs ≤ apduRoom longestSent → Framed f (apduFrame (headOf f) bs)
+  unfolding longestSent apduRoom
+  framed-apdu bs h = framed-reply ui (replyLlc ++ bs) (omega (arith, length-append replyLlc bs))
+
+  -- the body's answer, to V and to H
+  framed-plain : (l : Line) (ak text : List ℕ) → length text ≤ textRoom longestSent → Framed f (seal l (wrap ak (headOf f) 0xC0) text)
+  unfolding seal aroundLength
+  framed-plain l ak text h =
+      framed-apdu (around l (wrap ak (headOf f) 0xC0) text) (omega (arith, apdu-room, text-room, length-around l (wrap ak (headOf f) 0xC0) text))
+
+  framed-inside : (l : Line) (ak text : List ℕ) {tag : ℕ} → Enclosed tag → length text ≤ textRoom longestSent → Framed f (seal l (wrap ak (headOf f) tag) text)
+  unfolding seal aroundLength
+  framed-inside l ak text get h =
+      framed-apdu (around l (wrap ak (headOf f) 0xD0) text) (omega (arith, envelope-fits (length text) h, length-around l (wrap ak (headOf f) 0xD0) text))
+  framed-inside l ak text action h =
+      framed-apdu (around l (wrap ak (headOf f) 0xD3) text) (omega (arith, envelope-fits (length text) h, length-around l (wrap ak (headOf f) 0xD3) text))
+
+abbrev answeredNumbers : List ℕ
+answeredNumbers = 0 ∷ 8 ∷ 9 ∷ 10 ∷ 11 ∷ 12 ∷ 13 ∷ []
+
+unheard-number : {n : ℕ} → FrameNumber n → n < 8 → listed n answeredNumbers ≡ true → ⊥
+unheard-number four h e = false≢true e
+unheard-number five h e = false≢true e
+unheard-number eight h e = omega arith
+unheard-number nine h e = omega arith
+
+module _ (a : Lent) (m : Model) (title : length (m .line .title) ≡ 8) (challenge : length (a .challenge) ≡ 8) where
+  abbrev f : List ℕ
+  f = a .received
+
+  abbrev l : Line
+  l = m .line
+
+  abbrev Sends : Outcome → Type 0
+  Sends o = listed (o .refusal) answeredNumbers ≡ true → Framed f (o .sent)
+
+  framed-ruled : Odd f → {r : Ruling} → by.Ruled l (secretsOf a) f r → Sends (decided p2 (decision r) m)
+  unfolding disproved
+  framed-ruled odd (by.unheard t h) e = absurd (unheard-number (frame-number t) h e)
+  framed-ruled odd by.unopened e = absurd (false≢true e)
+  framed-ruled odd (by.drops from) e = absurd (false≢true e)
+  framed-ruled odd (by.rejects t h) e = framed-reply f odd frmr (headOf f .control ∷ 0x00 ∷ rejectCode t ∷ []) three-fit
+  framed-ruled odd (by.noLink t n) e = framed-reply f odd dm [] (omega arith)
+  framed-ruled odd (by.departs c from) e = framed-apdu f odd (rejectedAare c) (omega (arith, apdu-room, length-rejected c))
+  framed-ruled odd (by.excepts t x n) e = framed-apdu f odd (exceptionBytes x) (length-exception x)
+  framed-ruled odd (by.exceptsInside t x counter n from w) e = framed-apdu f odd (exceptionBytes x) (length-exception x)
+  framed-ruled odd (by.disproves invoke counter from w) e =
+      let number = taken (accepting (l .han .counters) counter) .number in
+      let text = actionAnswer invoke (denied 250) in
+      framed-apdu f odd (sealedEnvelope (lentKeys (secretsOf a)) (l .title) 0xCF number text)
+      (omega (arith, length-envelope (lentKeys (secretsOf a)) (l .title) 0xCF number text, envelope-fits 5 (omega (arith, text-room))))
+  framed-ruled odd (by.links after) e = framed-reply f odd ua [] (omega arith)
+  framed-ruled odd (by.tells bs after fits) e = framed-apdu f odd bs (fits title challenge)
+  framed-ruled odd (by.serves s q from) e =
+      framed-plain f odd l (a .ak) _ (turned-fits (requested Verification (selectiveIn Verification l) s q) (m .body))
+  framed-ruled odd (by.servesInside tag s q counter k from w) e =
+      framed-inside f odd (advanced (accepted counter l)) (a .ak) _ k (turned-fits (requested Han (selectiveIn Han l) s q) (m .body))
+
+  framed-heard : (x : Frame) → Told f x → Sends (decided p2 (decision (heard l (secretsOf a) f x)) m)
+  framed-heard (Unanswered t) told = λ e. absurd (unheard-number (frame-number t) (told .0) e)
+  framed-heard (Rejected t g) told = framed-ruled (odd-told f (Rejected t g) told tt) (by.rules-heard l (secretsOf a) f (Rejected t g) told)
+  framed-heard (LinkUp c g i) told = framed-ruled (odd-told f (LinkUp c g i) told tt) (by.rules-heard l (secretsOf a) f (LinkUp c g i) told)
+  framed-heard (LinkDown c g) told = framed-ruled (odd-told f (LinkDown c g) told tt) (by.rules-heard l (secretsOf a) f (LinkDown c g) told)
+  framed-heard (Apdu c g start end) told = framed-ruled (odd-told f (Apdu c g start end) told tt) (by.rules-heard l (secretsOf a) f (Apdu c g start end) told)
+
+-- where refusal 2 is not met, the challenge has 8 bytes
+lent-challenge : (a : Lent) → lentRefusal a ≡ 0 → length (a .challenge) ≡ 8
+unfolding lentRefusal
+lent-challenge a e =
+    go (ltb (a .room) (replyRoom longestSent)) (not (eqb (length (a .guk)) 16)) (not (eqb (length (a .ak)) 16)) (eqb (length (a .challenge)) 8) refl e
+  where
+    go : (w x y z : Bool) → eqb (length (a .challenge)) 8 ≡ z → _≡_ {A = ℕ} (cond w 1 (cond x 2 (cond y 2 (cond (not z) 2 0)))) 0 → length (a .challenge) ≡ 8
+    go true x y z q h = absurd (omega arith)
+    go false true y z q h = absurd (omega arith)
+    go false false true z q h = absurd (omega arith)
+    go false false false true q h = eqb-true (length (a .challenge)) 8 q
+    go false false false false q h = absurd (omega arith)
+
+pub answers : Answers
+unfolding ruled
+answers a m title =
+    row-lent a m (λ o. listed (o .refusal) answeredNumbers ≡ true → Framed (a .received) (o .sent)) (λ e. absurd (false≢true e)) (λ e. absurd (false≢true e)) (λ e. absurd (false≢true e))
+    (λ lent _. framed-heard a m title (lent-challenge a lent) (readFrame (a .received)) (read-told (a .received)))

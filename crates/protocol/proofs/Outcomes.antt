@@ -1,0 +1,308 @@
+-- Every frame call is one of the rows of document 01's table, and the cells follow: specs/Outcomes, proved.
+use mathlib.Core.Path.{_≡_, refl, ap, _∙_}
+use mathlib.Core.Bool.{Bool, true, false, cond, not, _||_, false≢true}
+use mathlib.Core.List.{List, [], _∷_}
+use Prim.Native.Nat.{ℕ, _≤_, _<_}
+use native.Mathlib.Omega.{arith}
+use lib.ListN.{length}
+use lib.Dec.{eqb, ltb, leb}
+use borrow.Author.Tests.{eqb-true, leb-true}
+use Rattle.model.specs.declared.Client.{Client}
+use Rattle.model.specs.declared.Client.the-variants.{Verification, Han}
+use Rattle.model.specs.Limits.{longestSent, replyRoom}
+use Rattle.model.specs.Names.{every}
+use Rattle.model.specs.Periods.{listed}
+use Rattle.model.specs.State.{none, Model, withLine}
+use Rattle.model.specs.Soundness.{sound}
+use Rattle.model.specs.Objects.{Request, turned}
+use Rattle.model.specs.Calls.{Lent, lentRefusal, frame as frameCall, Outcome, refused, serve, decided, act, step}
+use Rattle.model.proofs.ListLaws.{both, every-anywhere}
+use Rattle.hdlc.specs.declared.FrameTest.{FrameTest}
+use Rattle.hdlc.specs.declared.FrameTest.the-variants.{ShortFrame, FlagMissing, FrameType, LengthMismatch, LengthEightOrNine, WrongFcs, WrongHcs, EvenAddress, FrmrReceived, OverLength, SegmentBit, PfClear, WrongDestination, WrongSource, UnknownControl, LinkDownWithInformation, ShortInformation, WrongLlc}
+use Rattle.hdlc.specs.declared.Sender.the-variants.{Known, Unknown}
+use Rattle.hdlc.specs.Layout.{frmr, byte}
+use Rattle.hdlc.specs.Addresses.{addressOf, senderOf}
+use Rattle.hdlc.specs.Tests.{numberOf}
+use Rattle.hdlc.specs.Replies.{replyFrame}
+use Rattle.cosem.specs.Requests.{requested}
+use Rattle.counters.specs.Advance.{taken}
+use Rattle.counters.specs.Window.{accepting}
+use Rattle.protocol.specs.Rulings.{Ruling, decision}
+use Rattle.protocol.specs.Clients.{associates, withCounters, selectiveIn}
+use Rattle.protocol.specs.Decide.{wrap, accepted, advanced, disproved, around, seal, secretsOf, ruled, decide, p2}
+use Rattle.protocol.specs.Outcomes.{outcome, headIn, SentBy, said, Enclosed, get, action, Accepted, Row, refuses, drops, overLength, badFrame, noLink, notAccepted, exception, exceptionInside, denial, denialInside, wrongProof, links, tells, grants, grantsInside, RowsHold, FrameNumbers, Silent, Unchanged, Dropped, LastAccepted, PlainUnchanged, Advanced, counters, association, DeniedBody, DeniedLine}
+use Rattle.protocol.proofs.Claim.{p2-numbers-allowed}
+use Rattle.protocol.proofs.Ruled as by
+use Rattle.protocol.proofs.Turns as by-turn
+
+-- the numbers of a frame's own tests
+pub data FrameNumber : ℕ → Type 0 where
+  four : FrameNumber 4
+  five : FrameNumber 5
+  eight : FrameNumber 8
+  nine : FrameNumber 9
+
+pub frame-number : (t : FrameTest) → FrameNumber (numberOf t)
+frame-number ShortFrame = four
+frame-number FlagMissing = four
+frame-number FrameType = four
+frame-number LengthMismatch = four
+frame-number LengthEightOrNine = four
+frame-number WrongFcs = four
+frame-number WrongHcs = four
+frame-number EvenAddress = four
+frame-number FrmrReceived = five
+frame-number OverLength = eight
+frame-number SegmentBit = nine
+frame-number PfClear = nine
+frame-number WrongDestination = nine
+frame-number WrongSource = nine
+frame-number UnknownControl = nine
+frame-number LinkDownWithInformation = nine
+frame-number ShortInformation = nine
+frame-number WrongLlc = nine
+
+-- a known sender's address is its client's
+pub sender-address : (c : Client) (n : ℕ) → senderOf n ≡ Known c → n ≡ addressOf c
+unfolding senderOf
+sender-address c n e = go (eqb n (addressOf Verification)) refl (eqb n (addressOf Han)) refl e
+  where
+    go : (v : Bool) → eqb n (addressOf Verification) ≡ v → (w : Bool) → eqb n (addressOf Han) ≡ w → cond v (Known Verification) (cond w (Known Han) Unknown) ≡ Known c → n ≡ addressOf c
+    go true p w q k = let z : Verification ≡ c = cc in eqb-true n (addressOf Verification) p ∙ ap addressOf z
+    go false p true q k = let z : Han ≡ c = cc in eqb-true n (addressOf Han) q ∙ ap addressOf z
+    go false p false q k = absurd (let z : _≡_ {A = ℕ} 0 1 = cc in omega arith)
+
+module _ (a : Lent) (m : Model) where
+  sent-by : (c : Client) → by.From c (a .received) → SentBy c a
+  sent-by c e = sender-address c (byte (a .received) 4) e
+
+  row-unheard : {n : ℕ} → FrameNumber n → n < 8 → Row a m (refused n m)
+  row-unheard four h = refuses 4 refl
+  row-unheard five h = refuses 5 refl
+  row-unheard eight h = absurd (omega arith)
+  row-unheard nine h = absurd (omega arith)
+
+  row-rejected : {n : ℕ} → FrameNumber n → 8 ≤ n → Row a m (said n (replyFrame (headIn a) frmr (headIn a .control ∷ 0x00 ∷ cond (eqb n 8) 0x04 0x01 ∷ [])) (m .line) m)
+  row-rejected four h = absurd (omega arith)
+  row-rejected five h = absurd (omega arith)
+  row-rejected eight h = overLength
+  row-rejected nine h = badFrame
+
+  -- the body's answer, to V and to H
+  row-served : (q : Request) → q .client ≡ Verification → SentBy Verification a → by-turn.Turning (m .body) (turned q (m .body))
+      → Row a m (decided p2 (serve q (wrap (a .ak) (headIn a) 0xC0) (m .line)) m)
+  unfolding seal around
+  row-served q c from (by-turn.grants e) = rw e (grants q from c)
+  row-served q c from (by-turn.denies e b d) = rw (e, b) (denial from d)
+
+  row-inside : {tag : ℕ} (q : Request) (n : ℕ) → q .client ≡ Han → Enclosed tag → SentBy Han a → Accepted n (m .line) → by-turn.Turning (m .body) (turned q (m .body))
+      → Row a m (decided p2 (serve q (wrap (a .ak) (headIn a) tag) (advanced (accepted n (m .line)))) m)
+  unfolding seal around taken accepting
+  row-inside q n c get from w (by-turn.grants e) = rw e (grantsInside q n from get w c)
+  row-inside q n c action from w (by-turn.grants e) = rw e (grantsInside q n from action w c)
+  row-inside q n c get from w (by-turn.denies e b d) = rw (e, b) (denialInside n from get w d)
+  row-inside q n c action from w (by-turn.denies e b d) = rw (e, b) (denialInside n from action w d)
+
+  row-ruled : {r : Ruling} → by.Ruled (m .line) (secretsOf a) (a .received) r → Row a m (decided p2 (decision r) m)
+  unfolding disproved taken accepting requested
+  row-ruled (by.unheard t h) = row-unheard (frame-number t) h
+  row-ruled by.unopened = refuses 6 refl
+  row-ruled (by.drops from) = drops (sent-by Han from)
+  row-ruled (by.rejects t h) = row-rejected (frame-number t) h
+  row-ruled (by.noLink t e) = rw e noLink
+  row-ruled (by.departs c from) = notAccepted c (sent-by c from)
+  row-ruled (by.excepts t e n) = rw n (exception e)
+  row-ruled (by.exceptsInside t e counter n from w) = rw n (exceptionInside e counter (sent-by Han from) w)
+  row-ruled (by.disproves invoke counter from w) = wrongProof invoke counter (sent-by Han from) w
+  row-ruled (by.links after) = links after
+  row-ruled (by.tells bs after f) = tells bs after
+  row-ruled (by.serves s q from) =
+      let r = requested Verification (selectiveIn Verification (m .line)) s q in
+      row-served r refl (sent-by Verification from) (by-turn.turning r (m .body))
+  row-ruled (by.servesInside tag s q counter k from w) =
+      let r = requested Han (selectiveIn Han (m .line)) s q in
+      row-inside r counter refl k (sent-by Han from) w (by-turn.turning r (m .body))
+
+  -- refusals 1 and 2, and then 3, come before the frame
+  pub row-lent : (P : Outcome → Type 0) → P (refused 1 m) → P (refused 2 m) → P (refused 3 m) → (lentRefusal a ≡ 0 → sound m ≡ true → P (decided p2 (decision (ruled (m .line) a)) m)) → P (outcome a m)
+  unfolding step act lentRefusal decide
+  row-lent P one two three p =
+      go (ltb (a .room) (replyRoom longestSent)) (not (eqb (length (a .guk)) 16)) (not (eqb (length (a .ak)) 16)) (not (eqb (length (a .challenge)) 8)) (sound m) refl p
+    where
+      go : (w x y z s : Bool) → sound m ≡ s → (_≡_ {A = ℕ} (cond w 1 (cond x 2 (cond y 2 (cond z 2 0)))) 0 → sound m ≡ true → P (decided p2 (decision (ruled (m .line) a)) m))
+          → P (cond (eqb (cond w 1 (cond x 2 (cond y 2 (cond z 2 0)))) 0) (cond s (decided p2 (decision (ruled (m .line) a)) m) (refused 3 m)) (refused (cond w 1 (cond x 2 (cond y 2 (cond z 2 0)))) m))
+      go true x y z s e k = one
+      go false true y z s e k = two
+      go false false true z s e k = two
+      go false false false true s e k = two
+      go false false false false true e k = k refl e
+      go false false false false false e k = three
+
+pub rows-hold : RowsHold
+rows-hold a m = row-lent a m (Row a m) (refuses 1 refl) (refuses 2 refl) (refuses 3 refl) (λ _ _. row-ruled a m (by.rules (m .line) a))
+
+-- The cells.
+
+pub frame-numbers : FrameNumbers
+frame-numbers a m = p2-numbers-allowed (frameCall a) m
+
+-- a listed number is at most the greatest
+listed-most : (k n : ℕ) (ns : List ℕ) → every (λ i x. leb x k) 0 ns ≡ true → listed n ns ≡ true → n ≤ k
+listed-most k n [] t e = absurd (false≢true e)
+listed-most k n (x ∷ xs) t e = go (eqb x n) refl e (λ j. listed-most k n xs (every-anywhere (λ (y : ℕ). leb y k) 0 1 xs ∙ h .1) j)
+  where
+    h : (leb x k ≡ true) × (every (λ i y. leb y k) 1 xs ≡ true)
+    h = both (leb x k) _ t
+
+    go : (b : Bool) → eqb x n ≡ b → b || listed n xs ≡ true → (listed n xs ≡ true → n ≤ k) → n ≤ k
+    go true i j rest = omega (arith, eqb-true x n i, leb-true x k (h .0))
+    go false i j rest = rest j
+
+early : (n : ℕ) → listed n (1 ∷ 2 ∷ 3 ∷ 4 ∷ 5 ∷ 6 ∷ []) ≡ true → 6 < n → ⊥
+early n e h = omega (arith, listed-most 6 n (1 ∷ 2 ∷ 3 ∷ 4 ∷ 5 ∷ 6 ∷ []) refl e)
+
+module _ (a : Lent) (m : Model) where
+  silent-row : {o : Outcome} → Row a m o → listed (o .refusal) (1 ∷ 2 ∷ 3 ∷ 4 ∷ 5 ∷ 6 ∷ 7 ∷ []) ≡ true → o .sent ≡ []
+  silent-row (refuses n k) e = refl
+  silent-row (drops from) e = refl
+  silent-row overLength e = absurd (false≢true e)
+  silent-row badFrame e = absurd (false≢true e)
+  silent-row noLink e = absurd (false≢true e)
+  silent-row (notAccepted c from) e = absurd (false≢true e)
+  silent-row (exception x) e = absurd (false≢true e)
+  silent-row (exceptionInside x n from w) e = absurd (false≢true e)
+  silent-row (denial from d) e = absurd (false≢true e)
+  silent-row (denialInside n from k w d) e = absurd (false≢true e)
+  silent-row (wrongProof invoke n from w) e = absurd (false≢true e)
+  silent-row (links after) e = absurd (false≢true e)
+  silent-row (tells bs after) e = absurd (false≢true e)
+  silent-row (grants q from c) e = absurd (false≢true e)
+  silent-row (grantsInside q n from k w c) e = absurd (false≢true e)
+
+  unchanged-row : {o : Outcome} → Row a m o → listed (o .refusal) (1 ∷ 2 ∷ 3 ∷ 4 ∷ 5 ∷ 6 ∷ 8 ∷ 9 ∷ 10 ∷ 11 ∷ []) ≡ true → o .next ≡ m
+  unchanged-row (refuses n k) e = refl
+  unchanged-row (drops from) e = absurd (false≢true e)
+  unchanged-row overLength e = refl
+  unchanged-row badFrame e = refl
+  unchanged-row noLink e = refl
+  unchanged-row (notAccepted c from) e = refl
+  unchanged-row (exception x) e = refl
+  unchanged-row (exceptionInside x n from w) e = absurd (false≢true e)
+  unchanged-row (denial from d) e = refl
+  unchanged-row (denialInside n from k w d) e = absurd (false≢true e)
+  unchanged-row (wrongProof invoke n from w) e = absurd (false≢true e)
+  unchanged-row (links after) e = absurd (false≢true e)
+  unchanged-row (tells bs after) e = absurd (false≢true e)
+  unchanged-row (grants q from c) e = absurd (false≢true e)
+  unchanged-row (grantsInside q n from k w c) e = absurd (false≢true e)
+
+  dropped-row : {o : Outcome} → Row a m o → o .refusal ≡ 7 → o .next ≡ withLine (associates Han none (m .line)) m
+  dropped-row (refuses n k) e = absurd (early n k (omega arith))
+  dropped-row (drops from) e = refl
+  dropped-row overLength e = absurd (omega arith)
+  dropped-row badFrame e = absurd (omega arith)
+  dropped-row noLink e = absurd (omega arith)
+  dropped-row (notAccepted c from) e = absurd (omega arith)
+  dropped-row (exception x) e = absurd (omega arith)
+  dropped-row (exceptionInside x n from w) e = absurd (omega arith)
+  dropped-row (denial from d) e = absurd (omega arith)
+  dropped-row (denialInside n from k w d) e = absurd (omega arith)
+  dropped-row (wrongProof invoke n from w) e = absurd (omega arith)
+  dropped-row (links after) e = absurd (omega arith)
+  dropped-row (tells bs after) e = absurd (omega arith)
+  dropped-row (grants q from c) e = absurd (omega arith)
+  dropped-row (grantsInside q n from k w c) e = absurd (omega arith)
+
+  accepted-row : {o : Outcome} → Row a m o → o .refusal ≡ 12 → o .next ≡ withLine (withCounters (accepting (m .line .han .counters) (o .next .line .han .counters .accepted)) (m .line)) m
+  unfolding accepting
+  accepted-row (refuses n k) e = absurd (early n k (omega arith))
+  accepted-row (drops from) e = absurd (omega arith)
+  accepted-row overLength e = absurd (omega arith)
+  accepted-row badFrame e = absurd (omega arith)
+  accepted-row noLink e = absurd (omega arith)
+  accepted-row (notAccepted c from) e = absurd (omega arith)
+  accepted-row (exception x) e = refl
+  accepted-row (exceptionInside x n from w) e = refl
+  accepted-row (denial from d) e = absurd (omega arith)
+  accepted-row (denialInside n from k w d) e = absurd (omega arith)
+  accepted-row (wrongProof invoke n from w) e = absurd (omega arith)
+  accepted-row (links after) e = absurd (omega arith)
+  accepted-row (tells bs after) e = absurd (omega arith)
+  accepted-row (grants q from c) e = absurd (omega arith)
+  accepted-row (grantsInside q n from k w c) e = absurd (omega arith)
+
+  -- a frame has one sender
+  one-sender : {A : Type 0} → SentBy Verification a → SentBy Han a → A
+  one-sender v h = absurd (omega arith)
+
+  plain-row : {o : Outcome} → Row a m o → SentBy Verification a → listed (o .refusal) (12 ∷ 13 ∷ []) ≡ true → o .next ≡ m
+  plain-row (refuses n k) v e = refl
+  plain-row (drops from) v e = absurd (false≢true e)
+  plain-row overLength v e = refl
+  plain-row badFrame v e = refl
+  plain-row noLink v e = refl
+  plain-row (notAccepted c from) v e = refl
+  plain-row (exception x) v e = refl
+  plain-row (exceptionInside x n from w) v e = one-sender v from
+  plain-row (denial from d) v e = refl
+  plain-row (denialInside n from k w d) v e = one-sender v from
+  plain-row (wrongProof invoke n from w) v e = one-sender v from
+  plain-row (links after) v e = absurd (false≢true e)
+  plain-row (tells bs after) v e = absurd (false≢true e)
+  plain-row (grants q from c) v e = absurd (false≢true e)
+  plain-row (grantsInside q n from k w c) v e = absurd (false≢true e)
+
+  denied-row : {o : Outcome} → Row a m o → o .refusal ≡ 13 → o .next .body ≡ m .body
+  denied-row (refuses n k) e = refl
+  denied-row (drops from) e = refl
+  denied-row overLength e = refl
+  denied-row badFrame e = refl
+  denied-row noLink e = refl
+  denied-row (notAccepted c from) e = refl
+  denied-row (exception x) e = refl
+  denied-row (exceptionInside x n from w) e = refl
+  denied-row (denial from d) e = refl
+  denied-row (denialInside n from k w d) e = refl
+  denied-row (wrongProof invoke n from w) e = refl
+  denied-row (links after) e = absurd (omega arith)
+  denied-row (tells bs after) e = absurd (omega arith)
+  denied-row (grants q from c) e = absurd (omega arith)
+  denied-row (grantsInside q n from k w c) e = absurd (omega arith)
+
+  advanced-row : {o : Outcome} → Row a m o → SentBy Han a → o .refusal ≡ 13 → Advanced (m .line) (o .next .line)
+  advanced-row (refuses n k) h e = absurd (early n k (omega arith))
+  advanced-row (drops from) h e = absurd (omega arith)
+  advanced-row overLength h e = absurd (omega arith)
+  advanced-row badFrame h e = absurd (omega arith)
+  advanced-row noLink h e = absurd (omega arith)
+  advanced-row (notAccepted c from) h e = absurd (omega arith)
+  advanced-row (exception x) h e = absurd (omega arith)
+  advanced-row (exceptionInside x n from w) h e = absurd (omega arith)
+  advanced-row (denial from d) h e = one-sender from h
+  advanced-row (denialInside n from k w d) h e = counters n w
+  advanced-row (wrongProof invoke n from w) h e = association n w
+  advanced-row (links after) h e = absurd (omega arith)
+  advanced-row (tells bs after) h e = absurd (omega arith)
+  advanced-row (grants q from c) h e = absurd (omega arith)
+  advanced-row (grantsInside q n from k w c) h e = absurd (omega arith)
+
+pub silent : Silent
+silent a m = silent-row a m (rows-hold a m)
+
+pub unchanged : Unchanged
+unchanged a m = unchanged-row a m (rows-hold a m)
+
+pub dropped : Dropped
+dropped a m = dropped-row a m (rows-hold a m)
+
+pub last-accepted : LastAccepted
+last-accepted a m = accepted-row a m (rows-hold a m)
+
+pub plain-unchanged : PlainUnchanged
+plain-unchanged a m = plain-row a m (rows-hold a m)
+
+pub denied-body : DeniedBody
+denied-body a m = denied-row a m (rows-hold a m)
+
+pub denied-line : DeniedLine
+denied-line a m = advanced-row a m (rows-hold a m)

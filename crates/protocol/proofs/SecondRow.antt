@@ -1,0 +1,226 @@
+-- An enclosed request of H is answered under the meter's next counter, and so both rows of a second are read:
+-- `NextCounter` and `SecondRowRead` of specs/Lazy, proved.
+use mathlib.Core.Path.{_≡_, refl, sym, ap, _∙_}
+use mathlib.Core.Bool.{Bool, true, false, _||_, false≢true}
+use mathlib.Core.List.{List, [], _∷_, flatMap}
+use Prim.Native.Nat.{ℕ, _≤_}
+use native.Mathlib.Omega.{arith}
+use lib.Dec.{lit<, lit≤}
+use lib.ListN.{length, replicate}
+use borrow.Author.Tests.{le-leb}
+use Rattle.wire.specs.Numbers.{lengthField}
+use Rattle.wire.specs.Reading.{sameBytes, skipped, expected, filled, numberAt}
+use Rattle.model.specs.declared.Client.the-variants.{Han}
+use Rattle.model.specs.declared.Clock.{Clock}
+use Rattle.model.specs.Limits.{longestSent, longestReceived, replyRoom, greatestApdu, envelopeLength, dataRoom, maxRows, maxRegisters, maxColumns}
+use Rattle.model.specs.Clocks.{februaryDays, daysIn, realDate, realTime, fixedBytes, validClock}
+use Rattle.model.specs.Periods.{periods, captureDue}
+use Rattle.model.specs.Services.{within}
+use Rattle.model.specs.State.{Association, none, pending, associated, Line, Entry, Body, Model, withLine, newPeer, noCounters, newClock, newMeter}
+use Rattle.model.specs.Soundness.{acceptedRegisters, acceptedColumns, isNone, associationOnLink, onLink, sound}
+use Rattle.model.specs.Objects.{Request, Turn, granted, rowData, rowsData, attributeData, fitting, attributeRead, getAnswer, turned}
+use Rattle.model.specs.Calls.{Lent, tick, Outcome, captured, serve, decided, step}
+use Rattle.model.specs.Archive.{rowsOf}
+use Rattle.model.proofs.LimitFacts.{data-room}
+use Rattle.model.proofs.ListLaws.{both}
+use Rattle.model.proofs.SoundnessLaws.{sound-passes}
+use Rattle.hdlc.specs.declared.Head.{Head}
+use Rattle.cosem.specs.declared.Wanted.the-variants.{Read}
+use Rattle.cosem.specs.declared.Asked.{Asked}
+use Rattle.cosem.specs.declared.Reading.the-variants.{Asks}
+use Rattle.cosem.specs.Tags.{tagOf, tagIn}
+use Rattle.cosem.specs.Requests.{optionalPart, readGet, nameIn, requested}
+use Rattle.counters.specs.Advance.{taken}
+use Rattle.counters.specs.Window.{inWindow, accepting}
+use Rattle.envelope.specs.declared.Keys.{Keys}
+use Rattle.envelope.specs.Layout.{head, sealedEnvelope}
+use Rattle.envelope.specs.Opening.{longestApdu}
+use Rattle.envelope.proofs.CloseLaws.{length-envelope, envelope-size}
+use Rattle.envelope.proofs.RoundTrip.{opens-closed}
+use Rattle.meter.proofs.SameSecond.{afterDue, due-step, two-more, two-rows}
+use Rattle.protocol.specs.Clients.{selectiveIn, dedicatedKeys, isAssociated}
+use Rattle.protocol.specs.Rulings.{Ruling, asks, decision}
+use Rattle.protocol.specs.Decide.{wrap, accepted, advanced, readInside, requestEnclosed, conversed, carried, around, seal, secretsOf, p2}
+use Rattle.protocol.specs.Outcomes.{headIn, Enclosed, get, action, toH}
+use Rattle.protocol.specs.Lazy.{requestFrame, Asking, NextCounter, twice, bothRows, getProfile, SecondRowRead, SecondRowHappens}
+use Rattle.protocol.proofs.Claim.{p2-stays-sound}
+use Rattle.protocol.proofs.LinkUp.{outcome-ruled, ruled-request, tag-first}
+
+-- Enclosed requests.
+
+-- an association stands on a link that is up
+up-of : (l : Line) → onLink (l .han .peer) ≡ true → isAssociated (l .han .peer .association) ≡ true → l .han .peer .up ≡ true
+up-of l k e = go (l .han .peer .up) (l .han .peer .association) k e
+  where
+    go : (b : Bool) (x : Association) → b || isNone x ≡ true → isAssociated x ≡ true → b ≡ true
+    go true x p q = refl
+    go false none p q = absurd (false≢true q)
+    go false (pending ag k d m) p q = absurd (false≢true q)
+    go false (associated ag k) p q = absurd (false≢true p)
+
+pub tag-sealed : (k : Keys) (title : List ℕ) (tag counter : ℕ) (text : List ℕ) → tagIn (sealedEnvelope k title tag counter text) ≡ tagOf tag
+unfolding sealedEnvelope head
+tag-sealed k title tag counter text = tag-first tag _
+
+module _ (l : Line) (a : Lent) (h : Head) (up : l .han .peer .up ≡ true) (counter : ℕ) (text : List ℕ) (q : Asked) where
+  inside-carried : {tag : ℕ} → Enclosed tag → Asking a l tag counter text → readInside tag text ≡ Asks q
+      → carried l (secretsOf a) Han h (sealedEnvelope (dedicatedKeys (a .ak) l) (l .han .peer .title) tag counter text)
+      ≡ asks (requested Han (selectiveIn Han l) text q) (wrap (a .ak) h tag) (advanced (accepted counter l))
+  unfolding carried conversed requestEnclosed tagOf longestApdu
+  inside-carried get k r =
+      rw (
+        up,
+        tag-sealed (dedicatedKeys (a .ak) l) (l .han .peer .title) 0xD0 counter text,
+        k .associated,
+        k .agreed,
+        opens-closed (dedicatedKeys (a .ak) l) (l .han .peer .title) 0xD0 counter text (k .small) (k .short),
+        k .window,
+        r,
+      )
+  inside-carried action k r =
+      rw (
+        up,
+        tag-sealed (dedicatedKeys (a .ak) l) (l .han .peer .title) 0xD3 counter text,
+        k .associated,
+        k .agreed,
+        opens-closed (dedicatedKeys (a .ak) l) (l .han .peer .title) 0xD3 counter text (k .small) (k .short),
+        k .window,
+        r,
+      )
+
+-- what goes out around the body's answer, and the line that holds the counter taken
+sealed-outcome : (a : Lent) (m : Model) (q : Request) (counter : ℕ) {tag : ℕ} → Enclosed tag
+    → decided p2 (serve q (wrap (a .ak) (headIn a) tag) (advanced (accepted counter (m .line)))) m
+    ≡ record {
+      refusal = turned q (m .body) .refusal;
+      sent = toH a (m .line) tag (turned q (m .body) .bytes);
+      next = record { line = advanced (accepted counter (m .line)); body = turned q (m .body) .body };
+    }
+unfolding seal around taken accepting
+sealed-outcome a m q counter get = refl
+sealed-outcome a m q counter action = refl
+
+pub next-counter : NextCounter
+unfolding greatestApdu longestReceived
+next-counter a m tag counter text q s t k r =
+    let l = m .line in
+    let env = sealedEnvelope (dedicatedKeys (a .ak) l) (l .han .peer .title) tag counter text in
+    let n = length-envelope (dedicatedKeys (a .ak) l) (l .han .peer .title) tag counter text in
+    let size = envelope-size (length text) in
+    let short = k .short in
+    let link = both (onLink (l .verification)) (onLink (l .han .peer)) (sound-passes m s associationOnLink) .1 in
+    let reached = ruled-request l a Han env (k .received) (omega arith) (omega arith) in
+    let asked = inside-carried l a (headIn a) (up-of l link (k .associated)) counter text q t k r in
+    outcome-ruled a m (k .enough) s
+    ∙ ap (λ (x : Ruling). decided p2 (decision x) m) (reached ∙ asked)
+    ∙ sealed-outcome a m (requested Han (selectiveIn Han l) text q) counter t
+
+-- Both rows.
+
+abbrev profileAsked : ℕ → Asked
+profileAsked invoke = record { invoke = invoke; class = 7; wanted = Read 2 }
+
+profile-asked : (invoke : ℕ) → readInside 0xD0 (getProfile invoke) ≡ Asks (profileAsked invoke)
+unfolding readInside readGet optionalPart expected skipped numberAt sameBytes
+profile-asked invoke = refl
+
+-- the rows, where they fit
+profile-read : (selective : Bool) (invoke : ℕ) (b : Body) (rs : List Entry) → b .store .rows ≡ rs → length (rowsData rs) ≤ dataRoom longestSent
+    → turned (requested Han selective (getProfile invoke) (profileAsked invoke)) b ≡ record { refusal = 0; bytes = getAnswer invoke (granted (rowsData rs)); body = b }
+unfolding turned requested nameIn filled attributeRead attributeData fitting sameBytes
+profile-read selective invoke b rs e h = rw (e, le-leb (length (rowsData rs)) (dataRoom longestSent) h)
+
+module _ (t : Clock) (m : Model) (s : sound m ≡ true) (v : validClock t ≡ true) (d : captureDue (m .body .period) t ≡ true) where
+  after-sound : sound (afterDue t m) ≡ true
+  after-sound = ap (λ (o : Outcome). sound (o .next)) (sym (due-step p2 t m s v d)) ∙ p2-stays-sound (tick t) m s
+
+  still-due : captureDue (afterDue t m .body .period) t ≡ true
+  unfolding afterDue captured
+  still-due = d
+
+  twice-due : twice t m ≡ afterDue t (afterDue t m)
+  twice-due =
+      ap (λ (o : Outcome). step p2 (tick t) (o .next) .next) (due-step p2 t m s v d)
+      ∙ ap (λ (o : Outcome). o .next) (due-step p2 t (afterDue t m) after-sound v still-due)
+
+both-rows : (t : Clock) (m : Model) → rowsOf (afterDue t (afterDue t m)) ≡ bothRows t m
+unfolding afterDue captured
+both-rows t m = two-more maxRows _ _ (rowsOf m) two-rows
+
+pub second-row-read : SecondRowRead
+unfolding afterDue
+second-row-read a m t counter invoke s v d k fits =
+    let n = afterDue t (afterDue t m) in
+    let twice-sound : sound n ≡ true = after-sound t (afterDue t m) (after-sound t m s v d) v (still-due t m s v d) in
+    let read = profile-read (selectiveIn Han (m .line)) invoke (n .body) (bothRows t m) (both-rows t m) fits in
+    rw (twice-due t m s v d)
+    (next-counter a n 0xD0 counter (getProfile invoke) (profileAsked invoke) twice-sound get k (profile-asked invoke)
+    ∙ ap (λ (x : Turn). record { refusal = x .refusal; sent = toH a (m .line) 0xD0 (x .bytes); next = record { line = advanced (accepted counter (m .line)); body = x .body } }) read)
+
+-- A new meter with an associated H, at its first clock.
+
+abbrev someLine : Line
+someLine =
+    record {
+      title = replicate 8 0;
+      verification = newPeer (replicate 8 0);
+      han = record { peer = record { title = replicate 8 0; up = true; association = associated (0x00 ∷ 0x00 ∷ 0x15 ∷ []) (replicate 16 0) }; counters = noCounters };
+      p5 = false;
+    }
+
+abbrev someMeter : Model
+someMeter = withLine someLine (newMeter (replicate 16 0) (replicate 8 0) (replicate 8 0) (replicate 8 0))
+
+abbrev someLent : Lent
+someLent =
+    record {
+      room = replyRoom longestSent;
+      guk = replicate 16 0;
+      ak = replicate 16 0;
+      challenge = replicate 8 0;
+      received = requestFrame Han (sealedEnvelope (dedicatedKeys (replicate 16 0) someLine) (replicate 8 0) 0xD0 1 (getProfile 0));
+    }
+
+some-sound : sound someMeter ≡ true
+unfolding sound newMeter acceptedRegisters acceptedColumns validClock realDate realTime fixedBytes daysIn februaryDays periods maxRows maxRegisters maxColumns within
+some-sound = refl
+
+some-valid : validClock newClock ≡ true
+unfolding validClock realDate realTime fixedBytes daysIn februaryDays
+some-valid = refl
+
+some-due : captureDue (someMeter .body .period) newClock ≡ true
+unfolding newMeter captureDue
+some-due = refl
+
+some-asks : Asking someLent someLine 0xD0 1 (getProfile 0)
+unfolding tagOf within inWindow envelopeLength lengthField greatestApdu longestReceived
+some-asks =
+    record {
+      enough = record { room = omega arith; guk = refl; ak = refl; challenge = refl };
+      associated = refl;
+      agreed = refl;
+      window = refl;
+      small = lit< tt;
+      short = lit≤ tt;
+      received = refl;
+    }
+
+some-fits : length (rowsData (bothRows newClock someMeter)) ≤ dataRoom longestSent
+unfolding newMeter maxRows rowsData rowData flatMap lengthField
+some-fits = rw data-room (lit≤ tt)
+
+pub second-row-happens : SecondRowHappens
+second-row-happens =
+    record {
+      lent = someLent;
+      meter = someMeter;
+      clock = newClock;
+      counter = 1;
+      invoke = 0;
+      isSound = some-sound;
+      isValid = some-valid;
+      isDue = some-due;
+      asks = some-asks;
+      fits = some-fits;
+    }

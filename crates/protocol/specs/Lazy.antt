@@ -1,0 +1,292 @@
+-- The lazy meters that document 01 names ("What the contracts owe the archive"), each shut out by what its calls come to: "the
+-- meter that is always silent, the one that answers DM to all, the one that leaves its state unchanged (a link-up must let an
+-- AARQ in), the one that takes the first row and only pretends at the second, and one with an invented record number or
+-- counter". Proved in proofs/LinkUp, proofs/HanEntrance and proofs/SecondRow. Of the record number speak `DueTicks` and `NumberStays` of the
+-- model, proved at this protocol in proofs/Claim.
+use mathlib.Core.Path.{_≡_}
+use mathlib.Core.Bool.{true, false}
+use mathlib.Core.List.{List, [], _∷_, _++_}
+use Prim.Native.Nat.{ℕ, _+_, _-_, _^_, _≤_, _<_}
+use lib.ListN.{length, take}
+use Rattle.wire.specs.Numbers.{numberHigh}
+use Rattle.model.specs.declared.Client.{Client}
+use Rattle.model.specs.declared.Client.the-variants.{Verification, Han}
+use Rattle.model.specs.declared.Clock.{Clock}
+use Rattle.model.specs.Limits.{longestSent, longestReceived, replyRoom, envelopeLength, greatestApdu, dataRoom, leastSize, maxRows}
+use Rattle.model.specs.Clocks.{validClock}
+use Rattle.model.specs.Periods.{captureDue}
+use Rattle.model.specs.Services.{offered, common}
+use Rattle.model.specs.State.{associated, Line, Model, Entry, withLine, newMeter}
+use Rattle.model.specs.Soundness.{sound}
+use Rattle.model.specs.Objects.{granted, rowsData, getAnswer, turned}
+use Rattle.model.specs.Calls.{Lent, tick, step}
+use Rattle.model.specs.Archive.{rowsOf, dueRow}
+use Rattle.hdlc.specs.declared.Head.{Head}
+use Rattle.hdlc.specs.declared.Frame.the-variants.{LinkUp}
+use Rattle.hdlc.specs.Layout.{ui, frameOf}
+use Rattle.hdlc.specs.Addresses.{meterAddress, addressOf}
+use Rattle.hdlc.specs.Tests.{requestLlc}
+use Rattle.hdlc.specs.Reading.{readFrame}
+use Rattle.hdlc.specs.Replies.{uaFrame, dmFrame, apduFrame}
+use Rattle.cosem.specs.declared.Asked.{Asked}
+use Rattle.cosem.specs.declared.Reading.the-variants.{Asks}
+use Rattle.cosem.specs.Tags.{tagOf}
+use Rattle.cosem.specs.Requests.{requested}
+use Rattle.acse.specs.Clients.{plainContext, cipheredContext, noSecurity, gmacSecurity}
+use Rattle.acse.specs.Aare.{plainAare}
+use Rattle.counters.specs.Advance.{nextCounter}
+use Rattle.counters.specs.Window.{windowSize}
+use Rattle.envelope.specs.Layout.{sealedEnvelope}
+use Rattle.envelope.specs.Challenge.{proofValue}
+use Rattle.meter.specs.SameSecond.{nextRow}
+use Rattle.protocol.specs.Clients.{peer, withPeer, linked, associates, withCounters, agreedIn, selectiveIn, lentKeys, dedicatedKeys, isAssociated, bitAgreed}
+use Rattle.protocol.specs.Decide.{readInside, accepted, advanced, secretsOf, p2}
+use Rattle.protocol.specs.Examples.{linkUpFrame}
+use Rattle.protocol.specs.Outcomes.{outcome, headIn, said, Enclosed, Accepted, toH}
+
+-- enough is lent: neither "reply room below 779", nor "lent GUK or AK not 16 bytes, or challenge not 8"
+pub record Enough (a : Lent) : Type 0 where
+  pub room : replyRoom longestSent ≤ a .room
+  pub guk : length (a .guk) ≡ 16
+  pub ak : length (a .ak) ≡ 16
+  pub challenge : length (a .challenge) ≡ 8
+
+-- the frame of a client's request
+abbrev pub requestFrame : Client → List ℕ → List ℕ
+requestFrame c apdu = frameOf meterAddress (addressOf c) ui (requestLlc ++ apdu)
+
+-- "A link-up must let an AARQ in."
+
+-- V's AARQ with this title, these proposed services and this size
+unfoldable pub aarqOfV : (title services size : List ℕ) → List ℕ
+aarqOfV title services size =
+    (0x60 ∷ 0x32 ∷ 0xA1 ∷ 0x09 ∷ 0x06 ∷ 0x07 ∷ [])
+    ++ plainContext
+    ++ (0xA6 ∷ 0x0A ∷ 0x04 ∷ 0x08 ∷ [])
+    ++ title
+    ++ (0x8B ∷ 0x07 ∷ [])
+    ++ noSecurity
+    ++ (0xBE ∷ 0x10 ∷ 0x04 ∷ 0x0E ∷ 0x01 ∷ 0x00 ∷ 0x00 ∷ 0x00 ∷ 0x06 ∷ 0x5F ∷ 0x1F ∷ 0x04 ∷ 0x00 ∷ [])
+    ++ services
+    ++ size
+
+-- a link-up of the client without information
+abbrev pub LinksUp : Client → Lent → Type 0
+LinksUp c a = readFrame (a .received) ≡ LinkUp c (headIn a) false
+
+-- the line with the client's link up
+abbrev pub up : Client → Line → Line
+up c l = withPeer c (linked true (peer c l)) l
+
+-- a link-up and then an AARQ, each answered as 01 says, and what the meter is after each
+pub record LetIn (m : Model) (link aarq : Lent) (services : List ℕ) : Type 0 where
+  pub first : outcome link m ≡ said 0 (uaFrame (headIn link)) (up Verification (m .line)) m
+  pub second :
+      outcome aarq (outcome link m .next)
+      ≡ said 0 (apduFrame (headIn aarq) (plainAare Verification (m .line .title) (common services (offered Verification))))
+      (associates Verification (associated (common services (offered Verification)) []) (up Verification (m .line))) m
+
+-- on every sound meter whose V is not held by P5
+abbrev pub LinkUpLetsIn : Type 0
+LinkUpLetsIn =
+    (m : Model) (link aarq : Lent) (services size : List ℕ)
+    → sound m ≡ true
+    → m .line .p5 ≡ false
+    → length (m .line .verification .title) ≡ 8
+    → Enough link
+    → Enough aarq
+    → length services ≡ 3
+    → length size ≡ 2
+    → leastSize longestSent ≤ numberHigh size
+    → LinksUp Verification link
+    → aarq .received ≡ requestFrame Verification (aarqOfV (m .line .verification .title) services size)
+    → LetIn m link aarq services
+
+-- and so on a new one, by the frame of marked example 2
+abbrev pub NewMeterLetsIn : Type 0
+NewMeterLetsIn =
+    (device title verification han : List ℕ) (link aarq : Lent) (services size : List ℕ)
+    → length verification ≡ 8
+    → Enough link
+    → Enough aarq
+    → length services ≡ 3
+    → length size ≡ 2
+    → leastSize longestSent ≤ numberHigh size
+    → link .received ≡ linkUpFrame
+    → aarq .received ≡ requestFrame Verification (aarqOfV verification services size)
+    → LetIn (newMeter device title verification han) link aarq services
+
+-- "always silent", "DM to all": the link-up's answer is not nothing, and no DM
+pub record Speaks (sent : List ℕ) : Type 0 where
+  pub notSilent : sent ≡ [] → ⊥
+  pub noDm : (h : Head) → sent ≡ dmFrame h → ⊥
+
+abbrev pub LinkUpAnswered : Type 0
+LinkUpAnswered =
+    (m : Model) (link : Lent)
+    → sound m ≡ true
+    → m .line .p5 ≡ false
+    → Enough link
+    → LinksUp Verification link
+    → Speaks (outcome link m .sent)
+
+-- H is let in as well: by a link-up, an AARQ, and the challenge answered.
+
+-- H's initiate request with this dedicated key, these proposed services and this size
+unfoldable pub initiateOfH : (key services size : List ℕ) → List ℕ
+initiateOfH key services size =
+    (0x01 ∷ 0x01 ∷ 0x10 ∷ []) ++ key ++ (0x00 ∷ 0x00 ∷ 0x06 ∷ 0x5F ∷ 0x1F ∷ 0x04 ∷ 0x00 ∷ []) ++ services ++ size
+
+-- H's AARQ around an envelope
+unfoldable pub aarqOfH : (title challenge envelope : List ℕ) → List ℕ
+aarqOfH title challenge envelope =
+    (0x60 ∷ 0x66 ∷ 0xA1 ∷ 0x09 ∷ 0x06 ∷ 0x07 ∷ [])
+    ++ cipheredContext
+    ++ (0xA6 ∷ 0x0A ∷ 0x04 ∷ 0x08 ∷ [])
+    ++ title
+    ++ (0x8A ∷ 0x02 ∷ 0x07 ∷ 0x80 ∷ 0x8B ∷ 0x07 ∷ [])
+    ++ gmacSecurity
+    ++ (0xAC ∷ 0x0A ∷ 0x80 ∷ 0x08 ∷ [])
+    ++ challenge
+    ++ (0xBE ∷ 0x34 ∷ 0x04 ∷ 0x32 ∷ [])
+    ++ envelope
+
+-- the ACTION with H's proof: class 15, 0.0.40.0.4.255, method 1
+unfoldable pub proofOfH : (invoke : ℕ) → (proof : List ℕ) → List ℕ
+proofOfH invoke proof =
+    (0xC3 ∷ 0x01 ∷ invoke ∷ 0x00 ∷ 0x0F ∷ 0x00 ∷ 0x00 ∷ 0x28 ∷ 0x00 ∷ 0x04 ∷ 0xFF ∷ 0x01 ∷ 0x01 ∷ []) ++ proof
+
+-- what H sends: its dedicated key and challenge, its services and size, the counters of its AARQ, of its proof and of the
+-- envelope around that, and the invoke byte
+pub record Entrance : Type 0 where
+  pub key : List ℕ
+  pub challenge : List ℕ
+  pub services : List ℕ
+  pub size : List ℕ
+  pub first : ℕ
+  pub inner : ℕ
+  pub outer : ℕ
+  pub invoke : ℕ
+
+-- of the right lengths, a size that is enough, and counters that are allowed: "greater than the last accepted by at most 180";
+-- "the inner .. above the last accepted and below the envelope's"
+pub record Allowed (e : Entrance) : Type 0 where
+  pub key : length (e .key) ≡ 16
+  pub challenge : length (e .challenge) ≡ 8
+  pub services : length (e .services) ≡ 3
+  pub size : length (e .size) ≡ 2
+  pub enough : leastSize longestSent ≤ numberHigh (e .size)
+  pub above : e .first < e .inner
+  pub below : e .inner < e .outer
+  pub window : e .outer ≤ e .first + windowSize
+  pub small : e .outer < 256 ^ 4
+
+-- the three frames, by H's title; the second is lent the challenge that the third answers
+pub record Enters (title : List ℕ) (e : Entrance) (link aarq proof : Lent) : Type 0 where
+  pub links : LinksUp Han link
+  pub asks :
+      aarq .received
+      ≡ requestFrame Han
+      (aarqOfH title (e .challenge)
+      (sealedEnvelope (lentKeys (secretsOf aarq)) title 0x21 (e .first) (initiateOfH (e .key) (e .services) (e .size))))
+  pub proves :
+      proof .received
+      ≡ requestFrame Han
+      (sealedEnvelope (lentKeys (secretsOf proof)) title 0xCB (e .outer)
+      (proofOfH (e .invoke) (proofValue (lentKeys (secretsOf proof)) title (aarq .challenge) (e .inner))))
+
+-- each is accepted; then H is associated with the services agreed and its key, and three counters have been taken
+pub record LetInH (m : Model) (e : Entrance) (link aarq proof : Lent) : Type 0 where
+  pub first : outcome link m ≡ said 0 (uaFrame (headIn link)) (up Han (m .line)) m
+  pub second : outcome aarq (outcome link m .next) .refusal ≡ 0
+  pub third : outcome proof (outcome aarq (outcome link m .next) .next) .refusal ≡ 0
+  pub after :
+      outcome proof (outcome aarq (outcome link m .next) .next) .next
+      ≡ withLine
+      (withCounters (record { accepted = e .outer; sent = nextCounter (nextCounter (nextCounter (m .line .han .counters .sent))) })
+      (associates Han (associated (common (e .services) (offered Han)) (e .key)) (up Han (m .line))))
+      m
+
+abbrev pub HanLetIn : Type 0
+HanLetIn =
+    (m : Model) (e : Entrance) (link aarq proof : Lent)
+    → sound m ≡ true
+    → length (m .line .han .peer .title) ≡ 8
+    → Enough link
+    → Enough aarq
+    → Enough proof
+    → Allowed e
+    → Enters (m .line .han .peer .title) e link aarq proof
+    → LetInH m e link aarq proof
+
+-- "An invented counter": every request of H that is opened and read.
+
+-- an associated H asks this text with this tag, in an envelope under the dedicated key, with a counter in the window
+pub record Asking (a : Lent) (l : Line) (tag counter : ℕ) (text : List ℕ) : Type 0 where
+  pub enough : Enough a
+  pub associated : isAssociated (l .han .peer .association) ≡ true
+  pub agreed : bitAgreed (agreedIn (l .han .peer .association)) (tagOf tag) ≡ true
+  pub window : Accepted counter l
+  pub small : counter < 256 ^ 4
+  pub short : envelopeLength (length text) ≤ greatestApdu longestReceived
+  pub received : a .received ≡ requestFrame Han (sealedEnvelope (dedicatedKeys (a .ak) l) (l .han .peer .title) tag counter text)
+
+-- it has the body's answer, sealed under the meter's counter plus one, which the line then holds beside the client's
+abbrev pub NextCounter : Type 0
+NextCounter =
+    (a : Lent) (m : Model) (tag counter : ℕ) (text : List ℕ) (q : Asked)
+    → sound m ≡ true
+    → Enclosed tag
+    → Asking a (m .line) tag counter text
+    → readInside tag text ≡ Asks q
+    → outcome a m
+    ≡ (let t = turned (requested Han (selectiveIn Han (m .line)) text q) (m .body) in
+    record {
+      refusal = t .refusal;
+      sent = toH a (m .line) tag (t .bytes);
+      next = record { line = advanced (accepted counter (m .line)); body = t .body };
+    })
+
+-- "The one that takes the first row and only pretends at the second."
+
+-- the meter after two ticks of the same clock
+abbrev pub twice : Clock → Model → Model
+twice t m = step p2 (tick t) (step p2 (tick t) m .next) .next
+
+-- both rows, and the older ones, of which at most thirteen are kept
+abbrev pub bothRows : Clock → Model → List Entry
+bothRows t m = nextRow (dueRow t (m .body)) ∷ dueRow t (m .body) ∷ take (maxRows - 2) (rowsOf m)
+
+-- a GET of attribute 2 of the profile, with this invoke byte: class 7, 0.0.21.0.6.255
+abbrev pub getProfile : ℕ → List ℕ
+getProfile invoke =
+    0xC0 ∷ 0x01 ∷ invoke ∷ 0x00 ∷ 0x07 ∷ 0x00 ∷ 0x00 ∷ 0x15 ∷ 0x00 ∷ 0x06 ∷ 0xFF ∷ 0x02 ∷ 0x00 ∷ []
+
+-- after two due ticks of the same clock H reads both rows, in an envelope, where they fit one
+abbrev pub SecondRowRead : Type 0
+SecondRowRead =
+    (a : Lent) (m : Model) (t : Clock) (counter invoke : ℕ)
+    → sound m ≡ true
+    → validClock t ≡ true
+    → captureDue (m .body .period) t ≡ true
+    → Asking a (m .line) 0xD0 counter (getProfile invoke)
+    → length (rowsData (bothRows t m)) ≤ dataRoom longestSent
+    → outcome a (twice t m)
+    ≡ record {
+      refusal = 0;
+      sent = toH a (m .line) 0xD0 (getAnswer invoke (granted (rowsData (bothRows t m))));
+      next = record { line = advanced (accepted counter (m .line)); body = twice t m .body };
+    }
+
+-- and there is such a meter, clock and frame
+pub record SecondRowHappens : Type 0 where
+  pub lent : Lent
+  pub meter : Model
+  pub clock : Clock
+  pub counter : ℕ
+  pub invoke : ℕ
+  pub isSound : sound meter ≡ true
+  pub isValid : validClock clock ≡ true
+  pub isDue : captureDue (meter .body .period) clock ≡ true
+  pub asks : Asking lent (meter .line) 0xD0 counter (getProfile invoke)
+  pub fits : length (rowsData (bothRows clock meter)) ≤ dataRoom longestSent

@@ -1,0 +1,178 @@
+-- Document 01's table "What goes out", for frame calls: its rows, and its cells one by one, of every meter, sound or not, and
+-- whatever is lent. Proved in proofs/Outcomes and proofs/Framed.
+use mathlib.Core.Path.{_≡_}
+use mathlib.Core.Bool.{true}
+use mathlib.Core.List.{List, [], _∷_}
+use Prim.Native.Nat.{ℕ, _≤_}
+use lib.ListN.{length, take}
+use Rattle.model.specs.declared.Client.{Client}
+use Rattle.model.specs.declared.Client.the-variants.{Verification, Han}
+use Rattle.model.specs.Limits.{longestSent, replyRoom}
+use Rattle.model.specs.Periods.{listed}
+use Rattle.model.specs.State.{none, Line, Model, withLine}
+use Rattle.model.specs.Objects.{Request, denied, getAnswer, actionAnswer, turned}
+use Rattle.model.specs.Calls.{Lent, frame, Outcome, refused, step}
+use Rattle.model.specs.Archive.{numbers}
+use Rattle.hdlc.specs.declared.Head.{Head}
+use Rattle.hdlc.specs.Layout.{frmr, byte, headOf}
+use Rattle.hdlc.specs.Addresses.{addressOf}
+use Rattle.hdlc.specs.Tests.{Side, AllPass, frameTests}
+use Rattle.hdlc.specs.Replies.{replyFrame, uaFrame, dmFrame, apduFrame}
+use Rattle.cosem.specs.declared.Exception.{Exception}
+use Rattle.cosem.specs.Tags.{exceptionBytes}
+use Rattle.acse.specs.Aare.{rejectedAare}
+use Rattle.counters.specs.Advance.{nextCounter}
+use Rattle.counters.specs.Window.{inWindow, accepting}
+use Rattle.envelope.specs.Layout.{sealedEnvelope}
+use Rattle.protocol.specs.Clients.{associates, withCounters, lentKeys, dedicatedKeys}
+use Rattle.protocol.specs.Decide.{accepted, advanced, secretsOf, answerTag, p2}
+
+-- what the call comes to
+abbrev pub outcome : Lent → Model → Outcome
+outcome a m = step p2 (frame a) m
+
+-- the received frame's address bytes and control
+abbrev pub headIn : Lent → Head
+headIn a = headOf (a .received)
+
+-- its source is the address of this client
+abbrev pub SentBy : Client → Lent → Type 0
+SentBy c a = byte (a .received) 4 ≡ addressOf c
+
+-- The rows.
+
+-- a number, what goes out, and the line afterwards; the body is as it was
+abbrev pub said : ℕ → List ℕ → Line → Model → Outcome
+said n bs l m = record { refusal = n; sent = bs; next = withLine l m }
+
+-- the tags of H's enclosed requests: "GET (V: C0, H: D0) and for H ACTION (D3)"
+pub data Enclosed : ℕ → Type 0 where
+  get : Enclosed 0xD0
+  action : Enclosed 0xD3
+
+-- the answer to a denied request: "result code"
+pub data Denial : List ℕ → Type 0 where
+  read : (invoke code : ℕ) → Denial (getAnswer invoke (denied code))
+  action : (invoke code : ℕ) → Denial (actionAnswer invoke (denied code))
+
+-- a counter of H that is accepted
+abbrev pub Accepted : ℕ → Line → Type 0
+Accepted n l = inWindow (l .han .counters .accepted) n ≡ true
+
+-- what goes out around an answer to V's request, and around one to H's with this tag: in an envelope, of which the meter's
+-- counter plus one is the counter
+abbrev pub toV : Lent → List ℕ → List ℕ
+toV a text = apduFrame (headIn a) text
+
+abbrev pub toH : Lent → Line → (tag : ℕ) → List ℕ → List ℕ
+toH a l tag text =
+    apduFrame (headIn a) (sealedEnvelope (dedicatedKeys (a .ak) l) (l .title) (answerTag tag) (nextCounter (l .han .counters .sent)) text)
+
+pub data Row (a : Lent) (m : Model) : Outcome → Type 0 where
+  -- 1 to 6: both cells are empty
+  refuses : (n : ℕ) → listed n (1 ∷ 2 ∷ 3 ∷ 4 ∷ 5 ∷ 6 ∷ []) ≡ true → Row a m (refused n m)
+  -- 7: "that association is dropped"
+  drops : SentBy Han a → Row a m (said 7 [] (associates Han none (m .line)) m)
+  -- 8: "FRMR, code 0100"
+  overLength : Row a m (said 8 (replyFrame (headIn a) frmr (headIn a .control ∷ 0x00 ∷ 0x04 ∷ [])) (m .line) m)
+  -- 9: "FRMR, code 0001"
+  badFrame : Row a m (said 9 (replyFrame (headIn a) frmr (headIn a .control ∷ 0x00 ∷ 0x01 ∷ [])) (m .line) m)
+  -- 10: "DM"
+  noLink : Row a m (said 10 (dmFrame (headIn a)) (m .line) m)
+  -- 11: "AARE: result 1, diagnostic 13"
+  notAccepted : (c : Client) → SentBy c a → Row a m (said 11 (apduFrame (headIn a) (rejectedAare c)) (m .line) m)
+  -- 12: "exception"; "an opened envelope's counter becomes the last accepted"
+  exception : (e : Exception) → Row a m (said 12 (apduFrame (headIn a) (exceptionBytes e)) (m .line) m)
+  exceptionInside : (e : Exception) (n : ℕ) → SentBy Han a → Accepted n (m .line)
+      → Row a m (said 12 (apduFrame (headIn a) (exceptionBytes e)) (accepted n (m .line)) m)
+  -- 13: "result code"; "for H, counters advance; a wrong proof ends the association"
+  denial : {text : List ℕ} → SentBy Verification a → Denial text → Row a m (said 13 (toV a text) (m .line) m)
+  denialInside : {text : List ℕ} {tag : ℕ} (n : ℕ) → SentBy Han a → Enclosed tag → Accepted n (m .line) → Denial text
+      → Row a m (said 13 (toH a (m .line) tag text) (advanced (accepted n (m .line))) m)
+  wrongProof : (invoke n : ℕ) → SentBy Han a → Accepted n (m .line)
+      → Row a m (said 13
+      (apduFrame (headIn a)
+      (sealedEnvelope (lentKeys (secretsOf a)) (m .line .title) 0xCF (nextCounter (m .line .han .counters .sent)) (actionAnswer invoke (denied 250))))
+      (advanced (accepted n (associates Han none (m .line)))) m)
+  -- "an accepted frame answers 0": UA or an APDU of the line, with the line afterwards; or the body's answer to a request
+  links : (after : Line) → Row a m (said 0 (uaFrame (headIn a)) after m)
+  tells : (bs : List ℕ) (after : Line) → Row a m (said 0 (apduFrame (headIn a) bs) after m)
+  grants : (q : Request) → SentBy Verification a → q .client ≡ Verification
+      → Row a m (record { refusal = 0; sent = toV a (turned q (m .body) .bytes); next = record { line = m .line; body = turned q (m .body) .body } })
+  grantsInside : {tag : ℕ} (q : Request) (n : ℕ) → SentBy Han a → Enclosed tag → Accepted n (m .line) → q .client ≡ Han
+      → Row a m (record {
+        refusal = 0;
+        sent = toH a (m .line) tag (turned q (m .body) .bytes);
+        next = record { line = advanced (accepted n (m .line)); body = turned q (m .body) .body };
+      })
+
+-- every frame call is one of the rows
+abbrev pub RowsHold : Type 0
+RowsHold = (a : Lent) (m : Model) → Row a m (outcome a m)
+
+-- The cells, one by one.
+
+-- no number but 0 to 13
+abbrev pub FrameNumbers : Type 0
+FrameNumbers = (a : Lent) (m : Model) → listed (outcome a m .refusal) (numbers (frame a)) ≡ true
+
+-- 1 to 7: nothing goes out
+abbrev pub Silent : Type 0
+Silent =
+    (a : Lent) (m : Model)
+    → listed (outcome a m .refusal) (1 ∷ 2 ∷ 3 ∷ 4 ∷ 5 ∷ 6 ∷ 7 ∷ []) ≡ true
+    → outcome a m .sent ≡ []
+
+-- 1 to 6, 8 to 11: the meter is unchanged
+abbrev pub Unchanged : Type 0
+Unchanged =
+    (a : Lent) (m : Model)
+    → listed (outcome a m .refusal) (1 ∷ 2 ∷ 3 ∷ 4 ∷ 5 ∷ 6 ∷ 8 ∷ 9 ∷ 10 ∷ 11 ∷ []) ≡ true
+    → outcome a m .next ≡ m
+
+-- 7: "that association is dropped", and nothing else
+abbrev pub Dropped : Type 0
+Dropped = (a : Lent) (m : Model) → outcome a m .refusal ≡ 7 → outcome a m .next ≡ withLine (associates Han none (m .line)) m
+
+-- 12: "an opened envelope's counter becomes the last accepted", and nothing else
+abbrev pub LastAccepted : Type 0
+LastAccepted =
+    (a : Lent) (m : Model)
+    → outcome a m .refusal ≡ 12
+    → outcome a m .next ≡ withLine (withCounters (accepting (m .line .han .counters) (outcome a m .next .line .han .counters .accepted)) (m .line)) m
+
+-- 12 and 13, to V: no envelope is opened and no counter advances, so the meter is unchanged
+abbrev pub PlainUnchanged : Type 0
+PlainUnchanged =
+    (a : Lent) (m : Model)
+    → SentBy Verification a
+    → listed (outcome a m .refusal) (12 ∷ 13 ∷ []) ≡ true
+    → outcome a m .next ≡ m
+
+-- 13: "for H, counters advance; a wrong proof ends the association"; the body is as it was
+pub data Advanced (l : Line) : Line → Type 0 where
+  counters : (n : ℕ) → Accepted n l → Advanced l (advanced (accepted n l))
+  association : (n : ℕ) → Accepted n l → Advanced l (advanced (accepted n (associates Han none l)))
+
+abbrev pub DeniedBody : Type 0
+DeniedBody = (a : Lent) (m : Model) → outcome a m .refusal ≡ 13 → outcome a m .next .body ≡ m .body
+
+abbrev pub DeniedLine : Type 0
+DeniedLine = (a : Lent) (m : Model) → SentBy Han a → outcome a m .refusal ≡ 13 → Advanced (m .line) (outcome a m .next .line)
+
+-- What goes out.
+
+-- a frame whose layout every side accepts, to the sender of the received one, and no longer than "reply room" at least is
+pub record Framed (received sent : List ℕ) : Type 0 where
+  pub layout : (side : Side) → AllPass side sent (take 8 frameTests)
+  pub destination : byte sent 3 ≡ byte received 4
+  pub source : byte sent 4 ≡ byte received 3
+  pub fits : length sent ≤ replyRoom longestSent
+
+-- 0 and 8 to 13: such a frame goes out, of a meter whose title has its 8 bytes
+abbrev pub Answers : Type 0
+Answers =
+    (a : Lent) (m : Model)
+    → length (m .line .title) ≡ 8
+    → listed (outcome a m .refusal) (0 ∷ 8 ∷ 9 ∷ 10 ∷ 11 ∷ 12 ∷ 13 ∷ []) ≡ true
+    → Framed (a .received) (outcome a m .sent)
