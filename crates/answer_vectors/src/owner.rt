@@ -1,4 +1,4 @@
-// Meters as their owner prepares them, by owner's calls.
+// Meters as their owner prepares them, by owner's calls. Only the record number before the first table is set by hand.
 use meter::Meter;
 use model::Clock;
 use model::Name;
