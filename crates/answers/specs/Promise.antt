@@ -1,15 +1,13 @@
 -- What the answer to a request promises: the model's Turn, in the reply buffer and in the body of the code.
 use mathlib.Core.Path.{_≡_}
 use mathlib.Core.List.{List}
-use Prim.Native.Nat.{ℕ, _+_, _≤_, _<_}
-use lib.ListN.{length, getD}
+use Prim.Native.Nat.{ℕ, _+_, _≤_}
 use Rattle.wire.specs.Wrote.{Wrote}
 use Rattle.model.specs.Limits.{longestSent, textRoom}
-use Rattle.model.specs.Honesty.{blankEntry}
 use Rattle.model.specs.Objects.{Turn}
 use Rattle.store.specs.declared.Rows.{Rows}
-use Rattle.store.specs.Lists.{entriesOf}
 use Rattle.body.specs.View.{bodyOf}
+use Rattle.results.specs.Results.{Even}
 use Rattle.answers.specs.declared.Answered.{Answered}
 
 -- its number, its bytes from place at on and nothing else of the buffer, no longer than a text may be, and its body
@@ -19,7 +17,6 @@ pub record Turns (t : Turn) (l : List ℕ) (at : ℕ) (m : List ℕ) (r : Answer
   pub short : r .next ≤ at + textRoom longestSent
   pub body : bodyOf (r .body) ≡ t .body
 
--- what the rows of a sound body have: no more of them, and no more cells in each, than there is room for
-pub record Narrow (s : Rows) : Type 0 where
-  pub few : s .count ≤ 15
-  pub cells : (i : ℕ) → i < s .count → length (getD (entriesOf s) i blankEntry .cells) ≤ 16
+-- rows as a sound body has them, by some number of columns
+abbrev pub EvenRows : Rows → Type 0
+EvenRows s = (columns : ℕ) × Even s columns

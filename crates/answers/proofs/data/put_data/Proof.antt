@@ -4,7 +4,6 @@ use Rattle.wire.proofs.WroteLaws.{nothing}
 use Rattle.body.specs.View.{bodyOf}
 use Rattle.results.proofs.Lengths.{name-long}
 use Rattle.results.proofs.ResultLaws.{sound-even}
-use Rattle.answers.proofs.RowLaws.{even-narrow}
 use borrow.Author.Needs.{needs}
 use Rattle.answers.proofs.data.put_data.Statement.{statement}
 use Rattle.answers.proofs.data.put_data.Tie as tie
@@ -19,7 +18,7 @@ put-rows-requires : tie.Need-put-rows-requires
 unfolding bodyOf
 put-rows-requires c κs =
     let b = c .before .before .before .before .before .before .args .body in
-    (even-narrow (b .rows) _ (sound-even b (c .before .before .before .before .before .before .pre .0)), rw (c .before .before .before .d2 .given .1) at (c .before .before .before .before .before .before .pre .1), rw (c .before .before .before .d2 .given .1) at (c .before .before .before .before .before .before .pre .2))
+    ((b .columns .count, sound-even b (c .before .before .before .before .before .before .pre .0)), rw (c .before .before .before .d2 .given .1) at (c .before .before .before .before .before .before .pre .1), rw (c .before .before .before .d2 .given .1) at (c .before .before .before .before .before .before .pre .2))
 
 put-unsigned16-requires : tie.Need-put-unsigned16-requires
 unfolding bodyOf
