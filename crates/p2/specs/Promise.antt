@@ -1,0 +1,46 @@
+-- What the frame call promises, of any meter, sound or not, of every frame and of all that is lent.
+use mathlib.Core.Path.{_≡_}
+use mathlib.Core.Bool.{true}
+use mathlib.Core.List.{List, [], _∷_}
+use Prim.Native.Nat.{ℕ}
+use lib.ListN.{replicate}
+use Rattle.wire.specs.Reading.{filled}
+use Rattle.model.specs.Periods.{listed}
+use Rattle.model.specs.Calls.{Lent, frame, decided}
+use Rattle.model.specs.Demand3.{Handed, Gave, Promised}
+use Rattle.meter.specs.declared.Meter.{Meter}
+use Rattle.meter.specs.View.{view}
+use Rattle.protocol.specs.declared.Secrets.{Secrets}
+use Rattle.protocol.specs.Rulings.{Ruling, decision}
+use Rattle.protocol.specs.Decide.{p2}
+use Rattle.p2.specs.declared.Received.{Received}
+
+-- what is lent to a call: of the reply room its length
+abbrev pub lent : (room : ℕ) → (guk ak challenge received : List ℕ) → Lent
+lent n g k c f = record { room = n; guk = g; ak = k; challenge = c; received = f }
+
+-- the same as arrays; zeros where there are fewer bytes
+abbrev pub secretsIn : (guk ak challenge : List ℕ) → Secrets
+secretsIn g k c =
+    record { guk = filled g 0 (replicate 16 0); ak = filled k 0 (replicate 16 0); challenge = filled c 0 (replicate 8 0) }
+
+abbrev pub received : (refusal count : ℕ) → Meter → Received
+received n k m = record { refusal = n; count = k; meter = m }
+
+-- what is handed back, with what the reply room held before and holds after
+abbrev pub handed : Received → (before after : List ℕ) → Handed Meter view
+handed r l o = record { refusal = r .refusal; count = r .count; meter = r .meter; before = l; after = o }
+
+-- the refusals after which the very meter comes back: those with an empty cell for the meter in document 01's table
+abbrev pub keeping : List ℕ
+keeping = 1 ∷ 2 ∷ 3 ∷ 4 ∷ 5 ∷ 6 ∷ 8 ∷ 9 ∷ 10 ∷ 11 ∷ []
+
+-- the frame call: the model's promise at this protocol
+pub record Answered (a : Lent) (m : Meter) (l o : List ℕ) (r : Received) : Type 0 where
+  pub promised : Promised Meter view p2 (frame a) m (handed r l o)
+  pub kept : listed (r .refusal) keeping ≡ true → r .meter ≡ m
+
+-- a function within the call: what a ruling of the protocol comes to
+pub record Follows (x : Ruling) (m : Meter) (l o : List ℕ) (r : Received) : Type 0 where
+  pub gave : Gave Meter view (decided p2 (decision x) (view m)) (handed r l o)
+  pub kept : listed (r .refusal) keeping ≡ true → r .meter ≡ m
