@@ -14,6 +14,7 @@ pub use request::read_action;
 pub use request::read_get;
 pub use shapes::entries_at;
 pub use shapes::is_integer_at;
+pub use shapes::rest_of;
 
 // The tags of the APDUs that a client may send.
 pub enum Tag {

@@ -22,7 +22,7 @@ pub fn is_integer_at(apdu: &[u8], at: usize) -> bool
 }
 
 // The bytes from `at` to the end; none where `at` is past it.
-fn rest_of(s: &[u8], at: usize) -> &[u8]
+pub fn rest_of(s: &[u8], at: usize) -> &[u8]
     ensures { λ r. ⌜ now r ≡ drop at (now (s .entry)) ⌝ }
 {
     if s.len() < at { &s[0..0] } else { &s[at..] }

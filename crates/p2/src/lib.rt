@@ -1,9 +1,105 @@
-// The frame call: what it hands back, and in specs/ what it promises.
+// The frame call: a meter, a received frame, the keys and the challenge that are lent, and a reply room; a number, how many
+// bytes of the reply room go out, and the meter come back. It answers for every frame, every length lent and every meter.
+mod ask;
+mod associate;
+mod challenge;
+mod converse;
+mod ending;
+mod links;
+
+use ending::kept;
+use hdlc::Frame;
 use meter::Meter;
+use protocol::Secrets;
+ghost use mathlib.Core.Path.{_≡_};
+ghost use mathlib.Core.Bool.{true};
+ghost use Prim.Native.Nat.{_≤_};
+ghost use lib.ListN.{length};
+ghost use Rattle.model.specs.Limits.{longestSent, replyRoom};
+ghost use Rattle.model.specs.Soundness.{sound};
+ghost use Rattle.hdlc.specs.Reading.{readFrame};
+ghost use Rattle.line.specs.View.{lineOf};
+ghost use Rattle.meter.specs.View.{view};
+ghost use Rattle.protocol.specs.Decide.{heard};
+ghost use Rattle.p2.specs.Promise.{Answered, Follows, lent, secretsIn};
+
+// The reply room that a call asks for.
+const REPLY_ROOM: usize = 779;
 
 // What a frame call hands back: the number of its refusal, or 0, how many bytes of the reply room go out, and the meter.
 pub struct Received {
     pub refusal: u8,
     pub count: usize,
     pub meter: Meter,
+}
+
+// A frame is received. Refusals 1 to 13.
+pub fn receive(
+    meter: Meter,
+    frame: &[u8],
+    guk: &[u8],
+    ak: &[u8],
+    challenge: &[u8],
+    reply: &mut [u8],
+) -> Received
+    ensures { λ r. ⌜ Answered (lent (length (now (reply .entry))) (now (guk .entry)) (now (ak .entry)) (now (challenge .entry)) (now (frame .entry))) meter (now (reply .entry)) (now (reply .exit)) r ⌝ }
+{
+    if reply.len() < REPLY_ROOM {
+        return kept(1, meter);
+    }
+    if guk.len() != 16 {
+        return kept(2, meter);
+    }
+    if ak.len() != 16 {
+        return kept(2, meter);
+    }
+    if challenge.len() != 8 {
+        return kept(2, meter);
+    }
+    if !meter::is_sound(meter) {
+        return kept(3, meter);
+    }
+    let secrets = secrets_of(guk, ak, challenge);
+    hear(meter, secrets, frame, reply)
+}
+
+// What is lent, as arrays; zeros where there are fewer bytes.
+fn secrets_of(guk: &[u8], ak: &[u8], challenge: &[u8]) -> Secrets
+    ensures { λ r. ⌜ r ≡ secretsIn (now (guk .entry)) (now (ak .entry)) (now (challenge .entry)) ⌝ }
+{
+    let mut g = [0u8; 16];
+    wire::fill_at(guk, 0, &mut g);
+    let mut k = [0u8; 16];
+    wire::fill_at(ak, 0, &mut k);
+    let mut c = [0u8; 8];
+    wire::fill_at(challenge, 0, &mut c);
+    Secrets {
+        guk: g,
+        ak: k,
+        challenge: c,
+    }
+}
+
+// A frame, on a sound meter, with enough room and keys of the right lengths.
+fn hear(meter: Meter, secrets: Secrets, frame: &[u8], out: &mut [u8]) -> Received
+    requires { ⌜ (sound (view meter) ≡ true) × (replyRoom longestSent ≤ length (now out)) ⌝ }
+    ensures { λ r. ⌜ Follows (heard (lineOf (meter .line)) secrets (now (frame .entry)) (readFrame (now (frame .entry)))) meter (now (out .entry)) (now (out .exit)) r ⌝ }
+{
+    let read = hdlc::read_frame(frame);
+    match read {
+        Frame::Unanswered(test) => kept(hdlc::number_of(test), meter),
+        Frame::Rejected(test, head) => links::reject(meter, head, test, out),
+        Frame::LinkUp {
+            client,
+            head,
+            information,
+        } => links::link_up(meter, client, head, information, out),
+        Frame::LinkDown { client, head } => links::link_down(meter, client, head, out),
+        Frame::Apdu {
+            client,
+            head,
+            start,
+            end,
+        } => converse::carry(meter, secrets, client, head, &frame[start..end], out),
+    }
 }

@@ -1,0 +1,196 @@
+-- How a call ends: from what went out, the number and the line or the body afterwards, to what a ruling of the protocol and
+-- the call itself promise.
+use mathlib.Core.Path.{_≡_, refl, sym, ap, _∙_}
+use mathlib.Core.Bool.{true, false, false≢true}
+use mathlib.Core.List.{List, [], _∷_, _++_}
+use Prim.Native.Nat.{ℕ, _+_, _-_, _≤_, _<_}
+use native.Mathlib.Omega.{arith}
+use lib.Dec.{eqb}
+use lib.ListN.{length, take, drop}
+use lib.Seq.{take-length}
+use borrow.Author.Tests.{lt-ltb, le-ltb, eq-eqb, ne-eqb}
+use Rattle.model.specs.Periods.{listed}
+use Rattle.model.specs.Limits.{longestSent, textRoom, envelopeLength}
+use Rattle.model.proofs.LimitFacts.{reply-room}
+use Rattle.model.specs.State.{Line, Body}
+use Rattle.model.specs.Objects.{Request, Service, get, action, Meaning, meaning, Result, granted, denied, refusalOf as resultNumber, attributeRead, methodInvoked, getAnswer, actionAnswer, answered, turned}
+use Rattle.model.specs.Soundness.{sound}
+use Rattle.model.specs.Calls.{Lent, Wrap, lentRefusal, act, step}
+use Rattle.wire.specs.Wrote.{Wrote}
+use Rattle.wire.specs.Reading.{filled}
+use Rattle.wire.proofs.ReadingLaws.{fill-here}
+use Rattle.wire.proofs.WroteLaws.{past, there}
+use Rattle.hdlc.specs.declared.Head.{Head}
+use Rattle.hdlc.specs.Replies.{apduFrame, Sent}
+use Rattle.hdlc.proofs.ReplyLaws.{length-apdu}
+use Rattle.envelope.specs.declared.Keys.{Keys}
+use Rattle.envelope.specs.Layout.{sealedEnvelope}
+use Rattle.envelope.proofs.CloseLaws.{envelope-size, length-envelope}
+use Rattle.answers.specs.declared.Answered.{Answered as BodyAnswer}
+use Rattle.answers.specs.Promise.{Turns}
+use Rattle.line.specs.declared.LineState.{LineState}
+use Rattle.line.specs.View.{lineOf}
+use Rattle.body.specs.declared.BodyState.{BodyState}
+use Rattle.body.specs.View.{bodyOf}
+use Rattle.meter.specs.declared.Meter.{Meter}
+use Rattle.meter.specs.View.{view}
+use Rattle.protocol.specs.Clients.{dedicatedKeys}
+use Rattle.protocol.specs.Rulings.{Test, refusalOf, Reply, bytesOf, Ruling, says, asks}
+use Rattle.protocol.specs.Decide.{ruled, decide, wrap, around, seal}
+use Rattle.p2.specs.declared.Received.{Received}
+use Rattle.p2.specs.Promise.{lent, received, keeping, Answered, Follows}
+
+-- What went out.
+
+-- a frame that covers what was written before it
+pub sent-over : {l m o xs bs : List ℕ} {a b k : ℕ} → Wrote l a m b xs → Sent bs m o k → b ≤ length bs → Sent bs l o k
+sent-over {l} {m} {o} {xs} {bs} w s h = record { holds = s .holds ∙ ap (λ (t : List ℕ). bs ++ t) (past w (length bs) h); count = s .count }
+
+pub nothing-sent : (l : List ℕ) → Sent [] l l 0
+nothing-sent l = record { holds = refl; count = refl }
+
+-- Rulings.
+
+module _ (t : Test) (x : Reply) (m : Meter) {l o : List ℕ} {n k : ℕ} (e : n ≡ refusalOf t) (s : Sent (bytesOf x) l o k) where
+  -- the line answers, and the meter is as it was
+  pub says-kept : Follows (says t x (lineOf (m .line))) m l o (received n k m)
+  unfolding view
+  says-kept = record { gave = record { refusal = e; count = s .count; meter = refl; room = s .holds }; kept = λ _. refl }
+
+  -- the line answers, and becomes another
+  pub says-line : (next : LineState) {becomes : Line} → lineOf next ≡ becomes → listed (refusalOf t) keeping ≡ false
+      → Follows (says t x becomes) m l o (received n k (record { line = next; body = m .body }))
+  unfolding view
+  says-line next {becomes} v f =
+      record {
+        gave = record { refusal = e; count = s .count; meter = ap (λ (y : Line). record { line = y; body = bodyOf (m .body) }) v; room = s .holds };
+        kept = λ g. absurd (false≢true (sym f ∙ ap (λ (y : ℕ). listed y keeping) (sym e) ∙ g));
+      }
+
+-- what one ruling comes to, by another that is the same
+pub follows : {x y : Ruling} {m : Meter} {l o : List ℕ} {r : Received} → x ≡ y → Follows y m l o r → Follows x m l o r
+follows e f = rw e f
+
+-- the body denies by 13, and by no other number
+turned-free : (q : Request) (b : Body) → listed (turned q b .refusal) keeping ≡ false
+unfolding turned
+turned-free q b = go (q .service)
+  where
+    result : (x : Result) → listed (resultNumber x) keeping ≡ false
+    result (granted d) = refl
+    result (denied c) = refl
+
+    go : (s : Service) → listed (answered q b (meaning (q .client) (q .name) (b .store .registers)) s .refusal) keeping ≡ false
+    go (get a s) = result (attributeRead q a s b (meaning (q .client) (q .name) (b .store .registers)))
+    go (action k v) = result (methodInvoked q k v (meaning (q .client) (q .name) (b .store .registers)))
+
+-- the body answers
+pub serves : (q : Request) (w : Wrap) (m : Meter) (next : LineState) {becomes : Line} (b : BodyState) {l o : List ℕ} {n k : ℕ}
+    → lineOf next ≡ becomes
+    → n ≡ turned q (bodyOf (m .body)) .refusal
+    → bodyOf b ≡ turned q (bodyOf (m .body)) .body
+    → Sent (seal becomes w (turned q (bodyOf (m .body)) .bytes)) l o k
+    → Follows (asks q w becomes) m l o (received n k (record { line = next; body = b }))
+unfolding view
+serves q w m next {becomes} b v e f s =
+    record {
+      gave = record { refusal = e; count = s .count; meter = rw (v, f) refl; room = s .holds };
+      kept = λ g. absurd (false≢true (sym (turned-free q (bodyOf (m .body))) ∙ ap (λ (y : ℕ). listed y keeping) (sym e) ∙ g));
+    }
+
+-- an answer of the body has some bytes
+turned-some : (q : Request) (b : Body) → 0 < length (turned q b .bytes)
+unfolding turned
+turned-some q b = go (q .service)
+  where
+    got : (i : ℕ) (x : Result) → 0 < length (getAnswer i x)
+    got i (granted d) = omega arith
+    got i (denied c) = omega arith
+
+    acted : (i : ℕ) (x : Result) → 0 < length (actionAnswer i x)
+    acted i (granted d) = omega arith
+    acted i (denied c) = omega arith
+
+    go : (s : Service) → 0 < length (answered q b (meaning (q .client) (q .name) (b .store .registers)) s .bytes)
+    go (get a s) = got (q .invoke) (attributeRead q a s b (meaning (q .client) (q .name) (b .store .registers)))
+    go (action k v) = acted (q .invoke) (methodInvoked q k v (meaning (q .client) (q .name) (b .store .registers)))
+
+-- The body's answer that was written at a place: how long it is, and that it goes out.
+module _ (q : Request) (b : Body) (at : ℕ) {l m : List ℕ} {r : BodyAnswer} (t : Turns (turned q b) l at m r) where
+  pub answer-size : r .next - at ≡ length (turned q b .bytes)
+  answer-size = omega (arith, t .wrote .next)
+
+  pub answer-some : 0 < r .next - at
+  answer-some = omega (arith, answer-size, turned-some q b)
+
+  pub answer-short : r .next - at ≤ textRoom longestSent
+  answer-short = omega (arith, t .short)
+
+  answer-there : take (r .next - at) (drop at m) ≡ turned q b .bytes
+  answer-there = ap (λ (n : ℕ). take n (drop at m)) answer-size ∙ there (t .wrote)
+
+  pub plain-sent : (ak : List ℕ) (h : Head) (n : Line) {o : List ℕ} {k : ℕ} → at ≤ 14 → Sent (apduFrame h (take (r .next - at) (drop at m))) m o k → Sent (seal n (wrap ak h 0xC0) (turned q b .bytes)) l o k
+  unfolding seal around
+  plain-sent ak h n e s =
+      let bs = turned q b .bytes in
+      sent-over (t .wrote) (rw (answer-there) at s) (omega (arith, t .wrote .next, length-apdu h bs))
+
+  pub enclosed-sent : (ak title : List ℕ) (h : Head) (tag counter : ℕ) (keys : Keys) (n : Line) {o : List ℕ} {k : ℕ} → at ≤ 20 → 0xC0 < tag
+      → keys ≡ dedicatedKeys ak n → title ≡ n .title → counter ≡ n .han .counters .sent
+      → Sent (apduFrame h (sealedEnvelope keys title (tag + 4) counter (take (r .next - at) (drop at m)))) m o k
+      → Sent (seal n (wrap ak h tag) (turned q b .bytes)) l o k
+  unfolding seal around
+  enclosed-sent ak title h tag counter keys n e g ek et ec s =
+      let bs = turned q b .bytes in
+      let u = rw (answer-there, ek, et, ec) at s in
+      let z : length (sealedEnvelope (dedicatedKeys ak n) (n .title) (tag + 4) (n .han .counters .sent) bs) ≡ envelopeLength (length bs) = length-envelope (dedicatedKeys ak n) (n .title) (tag + 4) (n .han .counters .sent) bs in
+      rw (ne-eqb tag 0xC0 (λ x. omega arith))
+      (sent-over (t .wrote) u (omega (arith, t .wrote .next, z, envelope-size (length bs), length-apdu h (sealedEnvelope (dedicatedKeys ak n) (n .title) (tag + 4) (n .han .counters .sent) bs))))
+
+-- The call.
+
+-- what is lent, test by test
+module _ (n : ℕ) (g k c f : List ℕ) where
+  pub room-short : n < 779 → lentRefusal (lent n g k c f) ≡ 1
+  unfolding lentRefusal
+  room-short h = rw (reply-room, lt-ltb n 779 h)
+
+  module _ (r : 779 ≤ n) where
+    pub guk-wrong : (length g ≡ 16 → ⊥) → lentRefusal (lent n g k c f) ≡ 2
+    unfolding lentRefusal
+    guk-wrong h = rw (reply-room, le-ltb n 779 r, ne-eqb _ _ h)
+
+    module _ (eg : length g ≡ 16) where
+      pub ak-wrong : (length k ≡ 16 → ⊥) → lentRefusal (lent n g k c f) ≡ 2
+      unfolding lentRefusal
+      ak-wrong h = rw (reply-room, le-ltb n 779 r, eq-eqb _ _ eg, ne-eqb _ _ h)
+
+      module _ (ek : length k ≡ 16) where
+        pub challenge-wrong : (length c ≡ 8 → ⊥) → lentRefusal (lent n g k c f) ≡ 2
+        unfolding lentRefusal
+        challenge-wrong h = rw (reply-room, le-ltb n 779 r, eq-eqb _ _ eg, eq-eqb _ _ ek, ne-eqb _ _ h)
+
+        pub lent-right : length c ≡ 8 → lentRefusal (lent n g k c f) ≡ 0
+        unfolding lentRefusal
+        lent-right ec = rw (reply-room, le-ltb n 779 r, eq-eqb _ _ eg, eq-eqb _ _ ek, eq-eqb _ _ ec)
+
+-- bytes of the right number fill an array of it whole
+pub filled-whole : (s l : List ℕ) → length s ≡ length l → filled s 0 l ≡ s
+filled-whole s l e = fill-here s 0 l (omega arith) ∙ ap (λ (n : ℕ). take n s) (sym e) ∙ take-length s
+
+module _ (a : Lent) (m : Meter) {l : List ℕ} where
+  -- refused by what is lent
+  pub lent-refused : {n : ℕ} → lentRefusal a ≡ n → eqb n 0 ≡ false → Answered a m l l (received n 0 m)
+  unfolding step
+  lent-refused {n} e z = record { promised = rw (e, z) (record { refusal = refl; count = refl; meter = refl; room = refl }); kept = λ _. refl }
+
+  module _ (e : lentRefusal a ≡ 0) where
+    -- refused by the state
+    pub unsound-refused : sound (view m) ≡ false → Answered a m l l (received 3 0 m)
+    unfolding step
+    unsound-refused u = record { promised = rw (e, u) (record { refusal = refl; count = refl; meter = refl; room = refl }); kept = λ _. refl }
+
+    -- by the protocol
+    pub ruled-answered : {o : List ℕ} {r : Received} → sound (view m) ≡ true → Follows (ruled (view m .line) a) m l o r → Answered a m l o r
+    unfolding step act decide
+    ruled-answered u f = record { promised = rw (e, u) (f .gave); kept = f .kept }

@@ -1,0 +1,19 @@
+-- How long the titles of a meter's clients are: said once for every function that has a meter for its first parameter. A
+-- field's relation stands at `.1 .1`, one `.1` for each field before it, then `.0`; an array's length in that at `.1 .0 .1`.
+use mathlib.Core.Path.{_≡_}
+use mathlib.Core.List.{List}
+use lib.ListN.{length, length-map}
+use mir.Val.{Val}
+use denote.Laws.{Is}
+use denote.Struct.Declared.{row}
+use Rattle.model.specs.declared.Client.{Client}
+use Rattle.model.specs.declared.Client.the-variants.{Verification, Han}
+use Rattle.line.specs.View.{lineOf}
+use Rattle.meter.specs.declared.Meter.{Meter}
+use Rattle.meter.proofs.Meter.{the-type as meter-type}
+use Rattle.protocol.specs.Clients.{peer}
+
+pub title-long : (m : Meter) (vs : List Val) → Is (row meter-type) m vs → (c : Client) → length (peer c (lineOf (m .line)) .title) ≡ 8
+unfolding lineOf
+title-long m vs g Verification = simp length-map at (g .1 .1 .0 .1 .1 .1 .0 .1 .1 .0 .1 .0 .1)
+title-long m vs g Han = simp length-map at (g .1 .1 .0 .1 .1 .1 .1 .0 .1 .1 .0 .1 .1 .0 .1 .0 .1)

@@ -1,0 +1,28 @@
+-- `p2::links::link_down` meets its contract.
+use mathlib.Core.Path.{refl, sym, _∙_}
+use native.Mathlib.Omega.{arith}
+use borrow.Author.Tests.{not-true, not-false}
+use Rattle.model.proofs.LimitFacts.{reply-room}
+use Rattle.protocol.specs.Rulings.{none, linkDownWhileDown, ua}
+use Rattle.protocol.specs.Decide.{linkDown}
+use Rattle.p2.proofs.Endings.{says-line}
+use borrow.Author.Needs.{needs}
+use Rattle.p2.proofs.links.link_down.Statement.{statement}
+use Rattle.p2.proofs.links.link_down.Tie as tie
+
+returns : tie.Need-returns
+unfolding linkDown
+returns c =
+    rw (sym (c .before .before .before .before .before .is-up .ensures) ∙ not-true _ (c .before .before .before .before .if1 .taken)) (c .before .before .refuse .ensures linkDownWhileDown refl)
+
+put-ua-requires : tie.Need-put-ua-requires
+put-ua-requires c κs =
+    omega (arith, reply-room, c .before .before .before .before .before .before .pre)
+
+returns-2 : tie.Need-returns-2
+unfolding linkDown
+returns-2 c =
+    rw (c .answered .ensures, sym (c .before .before .before .before .before .before .before .is-up .ensures) ∙ not-false _ (c .before .before .before .before .before .before .if1 .left)) (says-line none (ua (c .before .before .before .before .before .before .before .before .before .before .args .head)) (c .before .before .before .before .before .before .before .before .before .before .args .meter) refl (c .before .before .before .put-ua .ensures) _ (c .before .before .before .before .before .with-link .ensures .view) refl)
+
+pub link-down-spec : {M : Type 1} → statement M
+link-down-spec = tie.close (tie.spec (λ c κs. search needs) (λ c κs. search needs) (λ c. search needs) returns (λ c κs. search needs) put-ua-requires (λ c κs. search needs) (λ c. search needs) returns-2)

@@ -1,0 +1,202 @@
+// Requests for the body: V's plain GET, and H's GET and ACTION in their envelopes.
+use crate::Received;
+use crate::ending::answered;
+use crate::ending::except;
+use crate::ending::kept;
+use cosem::Asked;
+use cosem::Exception;
+use cosem::Reading;
+use envelope::Admission;
+use envelope::LONGEST_APDU;
+use hdlc::Head;
+use line::LineState;
+use meter::Meter;
+use model::Client;
+use protocol::Secrets;
+use replies::APDU_AT;
+use replies::TEXT_AT;
+ghost use mathlib.Core.Path.{_≡_};
+ghost use mathlib.Core.Bool.{true};
+ghost use mathlib.Core.List.{List};
+ghost use Prim.Native.Nat.{ℕ, _<_, _≤_};
+ghost use lib.ListN.{length};
+ghost use Rattle.model.specs.Limits.{longestSent, replyRoom};
+ghost use Rattle.model.specs.Soundness.{sound};
+ghost use Rattle.model.specs.State.{none};
+ghost use Rattle.model.specs.declared.Client.the-variants.{Han};
+ghost use Rattle.cosem.specs.Requests.{readGet, requested};
+ghost use Rattle.line.specs.View.{lineOf};
+ghost use Rattle.meter.specs.View.{view};
+ghost use Rattle.protocol.specs.Clients.{associates, selectiveIn};
+ghost use Rattle.protocol.specs.Rulings.{asks, nothing, outsideWindow, says};
+ghost use Rattle.protocol.specs.Decide.{accepted, advanced, asked, askedInside, readInside, requestEnclosed, wrap};
+ghost use Rattle.p2.specs.Promise.{Follows};
+
+// A plain request.
+pub fn ask_plain(
+    meter: Meter,
+    secrets: Secrets,
+    client: Client,
+    head: Head,
+    apdu: &[u8],
+    out: &mut [u8],
+) -> Received
+    requires { ⌜ (sound (view meter) ≡ true) × (replyRoom longestSent ≤ length (now out)) ⌝ }
+    ensures { λ r. ⌜ Follows (asked (lineOf (meter .line)) secrets client head (now (apdu .entry)) (readGet (now (apdu .entry)))) meter (now (out .entry)) (now (out .exit)) r ⌝ }
+{
+    let line = meter.line;
+    let reading = cosem::read_get(apdu);
+    match reading {
+        Reading::Asks(request) => answer_plain(meter, client, head, apdu, request, out),
+        Reading::Malformed => except(meter, line, head, Exception::ServiceUnknown, out),
+    }
+}
+
+// The body's answer to a plain request.
+fn answer_plain(
+    meter: Meter,
+    client: Client,
+    head: Head,
+    apdu: &[u8],
+    request: Asked,
+    out: &mut [u8],
+) -> Received
+    requires { ⌜ (sound (view meter) ≡ true) × (replyRoom longestSent ≤ length (now out)) ⌝ }
+    ensures { λ r. ⌜ ((ak : List ℕ) → Follows (asks (requested client (selectiveIn client (lineOf (meter .line))) (now (apdu .entry)) request) (wrap ak head 0xC0) (lineOf (meter .line))) meter (now (out .entry)) (now (out .exit)) r) ⌝ }
+{
+    let line = meter.line;
+    let body = meter.body;
+    let selective = association::is_selective(line, client);
+    let answer = answers::answer(body, client, selective, apdu, request, out, APDU_AT);
+    let size = answer.next - APDU_AT;
+    let count = replies::send_plain(out, head, size);
+    let after = answer.body;
+    let next = Meter { line, body: after };
+    Received {
+        refusal: answer.refusal,
+        count,
+        meter: next,
+    }
+}
+
+// A request of H in its envelope, with the tag of GET or of ACTION.
+pub fn ask_enclosed(
+    meter: Meter,
+    secrets: Secrets,
+    head: Head,
+    tag: u8,
+    apdu: &[u8],
+    out: &mut [u8],
+) -> Received
+    requires { ⌜ (sound (view meter) ≡ true) × (0xC0 < tag) × (tag < 0xFC) × (replyRoom longestSent ≤ length (now out)) ⌝ }
+    ensures { λ r. ⌜ Follows (requestEnclosed (lineOf (meter .line)) secrets head tag (now (apdu .entry))) meter (now (out .entry)) (now (out .exit)) r ⌝ }
+{
+    let line = meter.line;
+    let han = line.han;
+    let ak = secrets.ak;
+    let keys = association::dedicated_keys(ak, line);
+    let title = association::title_of(line, Client::Han);
+    let mut text = [0u8; LONGEST_APDU];
+    let admission = envelope::admit_envelope(keys, title, tag, han.counters, apdu, &mut text);
+    match admission {
+        Admission::Unopened => kept(6, meter),
+        Admission::OutsideWindow => drop_association(meter),
+        Admission::Admitted { counter, size } => {
+            ask_inside(meter, secrets, head, tag, counter, &text[0..size], out)
+        }
+    }
+}
+
+// Refusal 7: nothing goes out, and H's association is dropped.
+pub fn drop_association(meter: Meter) -> Received
+    ensures { λ r. ⌜ ((l : List ℕ) → Follows (says outsideWindow nothing (associates Han none (lineOf (meter .line)))) meter l l r) ⌝ }
+{
+    let line = meter.line;
+    let next = association::ended(line, Client::Han);
+    answered(7, 0, next, meter)
+}
+
+// The line with a counter of H's as the last accepted.
+pub fn accept_counter(line: LineState, counter: u32) -> LineState
+    ensures { λ r. ⌜ lineOf r ≡ accepted counter (lineOf line) ⌝ }
+{
+    let han = line.han;
+    let pair = counters::accept(han.counters, counter);
+    association::with_counters(line, pair)
+}
+
+// An opened request of H.
+fn ask_inside(
+    meter: Meter,
+    secrets: Secrets,
+    head: Head,
+    tag: u8,
+    counter: u32,
+    text: &[u8],
+    out: &mut [u8],
+) -> Received
+    requires { ⌜ (sound (view meter) ≡ true) × (0xC0 < tag) × (tag < 0xFC) × (replyRoom longestSent ≤ length (now out)) ⌝ }
+    ensures { λ r. ⌜ Follows (askedInside (lineOf (meter .line)) secrets head tag counter (now (text .entry)) (readInside tag (now (text .entry)))) meter (now (out .entry)) (now (out .exit)) r ⌝ }
+{
+    let reading = read_inside(tag, text);
+    let ak = secrets.ak;
+    match reading {
+        Reading::Asks(request) => {
+            answer_enclosed(meter, ak, head, tag, counter, text, request, out)
+        }
+        Reading::Malformed => {
+            let next = accept_counter(meter.line, counter);
+            except(meter, next, head, Exception::ServiceUnknown, out)
+        }
+    }
+}
+
+// GET where the tag is that of GET, else ACTION.
+fn read_inside(tag: u8, text: &[u8]) -> Reading
+    ensures { λ r. ⌜ r ≡ readInside tag (now (text .entry)) ⌝ }
+{
+    if tag == 0xD0 {
+        cosem::read_get(text)
+    } else {
+        cosem::read_action(text)
+    }
+}
+
+// The body's answer to an opened request of H, in an envelope with the meter's next counter.
+fn answer_enclosed(
+    meter: Meter,
+    ak: [u8; 16],
+    head: Head,
+    tag: u8,
+    counter: u32,
+    text: &[u8],
+    request: Asked,
+    out: &mut [u8],
+) -> Received
+    requires { ⌜ (sound (view meter) ≡ true) × (0xC0 < tag) × (tag < 0xFC) × (replyRoom longestSent ≤ length (now out)) ⌝ }
+    ensures { λ r. ⌜ Follows (asks (requested Han (selectiveIn Han (lineOf (meter .line))) (now (text .entry)) request) (wrap ak head tag) (advanced (accepted counter (lineOf (meter .line))))) meter (now (out .entry)) (now (out .exit)) r ⌝ }
+{
+    let line = meter.line;
+    let body = meter.body;
+    let han = line.han;
+    let pair = counters::accept(han.counters, counter);
+    let taken = counters::take(pair);
+    let number = taken.number;
+    let next = association::with_counters(line, taken.counters);
+    let selective = association::is_selective(line, Client::Han);
+    let answer = answers::answer(body, Client::Han, selective, text, request, out, TEXT_AT);
+    let size = answer.next - TEXT_AT;
+    let keys = association::dedicated_keys(ak, next);
+    let title = line.title;
+    let count = replies::send_enclosed(out, head, keys, title, tag + 4, number, size);
+    let after = answer.body;
+    let changed = Meter {
+        line: next,
+        body: after,
+    };
+    Received {
+        refusal: answer.refusal,
+        count,
+        meter: changed,
+    }
+}

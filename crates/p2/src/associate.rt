@@ -1,0 +1,212 @@
+// AARQ: V's is plain, H's has its initiate request in an envelope.
+use crate::Received;
+use crate::ending::answered;
+use acse::Aarq;
+use acse::InitiateRequest;
+use envelope::LONGEST_APDU;
+use envelope::Opening;
+use hdlc::Head;
+use meter::Meter;
+use model::Client;
+use protocol::Secrets;
+ghost use mathlib.Core.Path.{_≡_};
+ghost use Prim.Native.Nat.{_≤_};
+ghost use lib.ListN.{length, replicate};
+ghost use Rattle.wire.specs.Reading.{filled};
+ghost use Rattle.model.specs.Limits.{longestSent, replyRoom};
+ghost use Rattle.model.specs.declared.Client.the-variants.{Han};
+ghost use Rattle.acse.specs.Aarq.{readAarq};
+ghost use Rattle.acse.specs.Initiate.{readRequest};
+ghost use Rattle.envelope.specs.Opening.{opened};
+ghost use Rattle.line.specs.View.{lineOf};
+ghost use Rattle.protocol.specs.Clients.{lentKeys, peer};
+ghost use Rattle.protocol.specs.Decide.{acceptedCiphered, acceptedPlain, associating, enclosed, initiated, rejected};
+ghost use Rattle.p2.specs.Promise.{Follows};
+
+// An AARQ.
+pub fn associate(
+    meter: Meter,
+    secrets: Secrets,
+    client: Client,
+    head: Head,
+    apdu: &[u8],
+    out: &mut [u8],
+) -> Received
+    requires { ⌜ replyRoom longestSent ≤ length (now out) ⌝ }
+    ensures { λ r. ⌜ Follows (associating (lineOf (meter .line)) secrets client head (now (apdu .entry)) (readAarq (now (apdu .entry)) client (peer client (lineOf (meter .line)) .title))) meter (now (out .entry)) (now (out .exit)) r ⌝ }
+{
+    let line = meter.line;
+    let title = association::title_of(line, client);
+    let aarq = acse::read_aarq(apdu, client, &title);
+    match aarq {
+        Aarq::Plain { services } => {
+            let proposed = three_at(apdu, services);
+            accept_plain(meter, head, proposed, out)
+        }
+        Aarq::Ciphered {
+            challenge,
+            envelope,
+        } => {
+            let theirs = eight_at(apdu, challenge);
+            open_request(meter, secrets, head, theirs, &apdu[envelope..], out)
+        }
+        Aarq::Departs => reject_aarq(meter, client, head, out),
+    }
+}
+
+// The AARE that does not accept.
+fn reject_aarq(meter: Meter, client: Client, head: Head, out: &mut [u8]) -> Received
+    requires { ⌜ replyRoom longestSent ≤ length (now out) ⌝ }
+    ensures { λ r. ⌜ Follows (rejected client head (lineOf (meter .line))) meter (now (out .entry)) (now (out .exit)) r ⌝ }
+{
+    let count = replies::send_rejected(out, head, client);
+    Received {
+        refusal: 11,
+        count,
+        meter,
+    }
+}
+
+// V is associated.
+fn accept_plain(meter: Meter, head: Head, proposed: [u8; 3], out: &mut [u8]) -> Received
+    requires { ⌜ replyRoom longestSent ≤ length (now out) ⌝ }
+    ensures { λ r. ⌜ Follows (acceptedPlain (lineOf (meter .line)) head proposed) meter (now (out .entry)) (now (out .exit)) r ⌝ }
+{
+    let line = meter.line;
+    let title = line.title;
+    let agreed = acse::agreed(Client::Verification, proposed);
+    let next = association::associated_plain(line, agreed);
+    let count = replies::send_accepted_plain(out, head, Client::Verification, title, agreed);
+    answered(0, count, next, meter)
+}
+
+// The envelope of H's AARQ, with H's challenge.
+fn open_request(
+    meter: Meter,
+    secrets: Secrets,
+    head: Head,
+    challenge: [u8; 8],
+    envelope: &[u8],
+    out: &mut [u8],
+) -> Received
+    requires { ⌜ replyRoom longestSent ≤ length (now out) ⌝ }
+    ensures { λ r. ⌜ Follows (enclosed (lineOf (meter .line)) secrets head challenge (opened (lentKeys secrets) (lineOf (meter .line) .han .peer .title) 0x21 (now (envelope .entry)))) meter (now (out .entry)) (now (out .exit)) r ⌝ }
+{
+    let keys = association::lent_keys(secrets);
+    let line = meter.line;
+    let title = association::title_of(line, Client::Han);
+    let mut text = [0u8; LONGEST_APDU];
+    let Opening::Opens { counter, size } = envelope::open_envelope(
+        keys,
+        title,
+        0x21,
+        envelope,
+        &mut text,
+    ) else {
+        return reject_aarq(meter, Client::Han, head, out);
+    };
+    initiate(
+        meter,
+        secrets,
+        head,
+        challenge,
+        &text[0..size],
+        counter,
+        out,
+    )
+}
+
+// H's opened initiate request.
+fn initiate(
+    meter: Meter,
+    secrets: Secrets,
+    head: Head,
+    challenge: [u8; 8],
+    text: &[u8],
+    counter: u32,
+    out: &mut [u8],
+) -> Received
+    requires { ⌜ replyRoom longestSent ≤ length (now out) ⌝ }
+    ensures { λ r. ⌜ Follows (initiated (lineOf (meter .line)) secrets head challenge (now (text .entry)) counter (readRequest (now (text .entry)))) meter (now (out .entry)) (now (out .exit)) r ⌝ }
+{
+    let request = acse::read_request(text);
+    match request {
+        InitiateRequest::Accepted { key, services } => {
+            let dedicated = sixteen_at(text, key);
+            let proposed = three_at(text, services);
+            accept_ciphered(
+                meter,
+                secrets,
+                head,
+                challenge,
+                dedicated,
+                proposed,
+                counter,
+                out,
+            )
+        }
+        InitiateRequest::Departs => reject_aarq(meter, Client::Han, head, out),
+    }
+}
+
+// H is pending: its counter becomes the last accepted, and the meter's next one is used.
+fn accept_ciphered(
+    meter: Meter,
+    secrets: Secrets,
+    head: Head,
+    challenge: [u8; 8],
+    key: [u8; 16],
+    proposed: [u8; 3],
+    counter: u32,
+    out: &mut [u8],
+) -> Received
+    requires { ⌜ replyRoom longestSent ≤ length (now out) ⌝ }
+    ensures { λ r. ⌜ Follows (acceptedCiphered (lineOf (meter .line)) secrets head challenge key proposed counter) meter (now (out .entry)) (now (out .exit)) r ⌝ }
+{
+    let line = meter.line;
+    let title = line.title;
+    let han = line.han;
+    let pair = counters::accept(han.counters, counter);
+    let next = counters::take(pair);
+    let agreed = acse::agreed(Client::Han, proposed);
+    let keys = association::lent_keys(secrets);
+    let ours = secrets.challenge;
+    let after = association::pending(line, agreed, key, challenge, ours, next.counters);
+    let number = next.number;
+    let count = replies::send_accepted_ciphered(
+        out,
+        head,
+        Client::Han,
+        keys,
+        title,
+        ours,
+        agreed,
+        number,
+    );
+    answered(0, count, after, meter)
+}
+
+// The bytes at a place; zeros where there are fewer.
+fn three_at(s: &[u8], at: usize) -> [u8; 3]
+    ensures { λ r. ⌜ r ≡ filled (now (s .entry)) at (replicate 3 0) ⌝ }
+{
+    let mut bytes = [0u8; 3];
+    wire::fill_at(s, at, &mut bytes);
+    bytes
+}
+
+fn eight_at(s: &[u8], at: usize) -> [u8; 8]
+    ensures { λ r. ⌜ r ≡ filled (now (s .entry)) at (replicate 8 0) ⌝ }
+{
+    let mut bytes = [0u8; 8];
+    wire::fill_at(s, at, &mut bytes);
+    bytes
+}
+
+fn sixteen_at(s: &[u8], at: usize) -> [u8; 16]
+    ensures { λ r. ⌜ r ≡ filled (now (s .entry)) at (replicate 16 0) ⌝ }
+{
+    let mut bytes = [0u8; 16];
+    wire::fill_at(s, at, &mut bytes);
+    bytes
+}

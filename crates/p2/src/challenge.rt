@@ -1,0 +1,228 @@
+// H's answer to the challenge: its proof tested, the meter's sent.
+use crate::Received;
+use crate::ask::accept_counter;
+use crate::ask::drop_association;
+use crate::ending::answered;
+use crate::ending::except;
+use crate::ending::kept;
+use cosem::Asked;
+use cosem::Exception;
+use cosem::Reading;
+use cosem::Wanted;
+use envelope::Admission;
+use envelope::LONGEST_APDU;
+use hdlc::Head;
+use line::LineState;
+use meter::Meter;
+use model::Client;
+use model::Name;
+use protocol::Secrets;
+ghost use mathlib.Core.Path.{_≡_};
+ghost use Prim.Native.Nat.{_≤_};
+ghost use lib.ListN.{length};
+ghost use Rattle.model.specs.Limits.{longestSent, replyRoom};
+ghost use Rattle.cosem.specs.Requests.{readAction};
+ghost use Rattle.line.specs.View.{lineOf};
+ghost use Rattle.protocol.specs.Decide.{answeredChallenge, challenged, challengeEnclosed, disproved, isChallenge, onFirstMethod, proofIn, proved, provesItself};
+ghost use Rattle.p2.specs.Promise.{Follows};
+
+// An envelope with the tag of the challenge's answer.
+pub fn hear_challenge(
+    meter: Meter,
+    secrets: Secrets,
+    head: Head,
+    apdu: &[u8],
+    out: &mut [u8],
+) -> Received
+    requires { ⌜ replyRoom longestSent ≤ length (now out) ⌝ }
+    ensures { λ r. ⌜ Follows (challengeEnclosed (lineOf (meter .line)) secrets head (now (apdu .entry))) meter (now (out .entry)) (now (out .exit)) r ⌝ }
+{
+    let line = meter.line;
+    let han = line.han;
+    let keys = association::lent_keys(secrets);
+    let title = association::title_of(line, Client::Han);
+    let mut text = [0u8; LONGEST_APDU];
+    let admission = envelope::admit_envelope(keys, title, 0xCB, han.counters, apdu, &mut text);
+    match admission {
+        Admission::Unopened => kept(6, meter),
+        Admission::OutsideWindow => drop_association(meter),
+        Admission::Admitted { counter, size } => {
+            answer_challenge(meter, secrets, head, counter, &text[0..size], out)
+        }
+    }
+}
+
+// An opened APDU while H is pending.
+fn answer_challenge(
+    meter: Meter,
+    secrets: Secrets,
+    head: Head,
+    counter: u32,
+    text: &[u8],
+    out: &mut [u8],
+) -> Received
+    requires { ⌜ replyRoom longestSent ≤ length (now out) ⌝ }
+    ensures { λ r. ⌜ Follows (answeredChallenge (lineOf (meter .line)) secrets head counter (now (text .entry)) (readAction (now (text .entry)))) meter (now (out .entry)) (now (out .exit)) r ⌝ }
+{
+    let reading = cosem::read_action(text);
+    match reading {
+        Reading::Asks(request) => judge(meter, secrets, head, counter, text, request, out),
+        Reading::Malformed => {
+            let next = accept_counter(meter.line, counter);
+            except(meter, next, head, Exception::ServiceUnknown, out)
+        }
+    }
+}
+
+// An ACTION while H is pending.
+fn judge(
+    meter: Meter,
+    secrets: Secrets,
+    head: Head,
+    counter: u32,
+    text: &[u8],
+    request: Asked,
+    out: &mut [u8],
+) -> Received
+    requires { ⌜ replyRoom longestSent ≤ length (now out) ⌝ }
+    ensures { λ r. ⌜ Follows (challenged (lineOf (meter .line)) secrets head counter (now (text .entry)) request) meter (now (out .entry)) (now (out .exit)) r ⌝ }
+{
+    if !is_challenge(text, request) {
+        let next = accept_counter(meter.line, counter);
+        return except(meter, next, head, Exception::ServiceNotAllowed, out);
+    }
+    let invoke = request.invoke;
+    let line = meter.line;
+    if proves_itself(line, secrets, counter, text, request) {
+        return prove(meter, secrets, head, invoke, counter, out);
+    }
+    disprove(meter, secrets, head, invoke, counter, out)
+}
+
+// Whether a request is the ACTION that answers the challenge.
+fn is_challenge(text: &[u8], request: Asked) -> bool
+    ensures { λ r. ⌜ r ≡ isChallenge (now (text .entry)) request ⌝ }
+{
+    if request.class != 15 {
+        return false;
+    }
+    let own = Name {
+        bytes: [0, 0, 40, 0, 4, 255],
+    };
+    let name = cosem::name_in(text);
+    if !names::same_name(own, name) {
+        return false;
+    }
+    let wanted = request.wanted;
+    is_first_method(wanted)
+}
+
+// Whether method 1 is wanted.
+fn is_first_method(wanted: Wanted) -> bool
+    ensures { λ r. ⌜ r ≡ onFirstMethod wanted ⌝ }
+{
+    match wanted {
+        Wanted::Read { attribute: _ } => false,
+        Wanted::ReadSelected {
+            attribute: _,
+            selector: _,
+            at: _,
+        } => false,
+        Wanted::Invoke { method } => method == 1,
+        Wanted::InvokeWith { method, at: _ } => method == 1,
+    }
+}
+
+// Whether the parameter is H's right proof.
+fn proves_itself(
+    line: LineState,
+    secrets: Secrets,
+    counter: u32,
+    text: &[u8],
+    request: Asked,
+) -> bool
+    ensures { λ r. ⌜ r ≡ provesItself (lineOf line) secrets counter (now (text .entry)) request ⌝ }
+{
+    let keys = association::lent_keys(secrets);
+    let title = association::title_of(line, Client::Han);
+    let challenge = association::meter_challenge(line);
+    let han = line.han;
+    let wanted = request.wanted;
+    let proof = proof_in(text, wanted);
+    envelope::is_right_proof(keys, title, challenge, han.counters, counter, proof)
+}
+
+// The parameter of a request; none is empty.
+fn proof_in(text: &[u8], wanted: Wanted) -> &[u8]
+    ensures { λ r. ⌜ now r ≡ proofIn (now (text .entry)) wanted ⌝ }
+{
+    match wanted {
+        Wanted::Read { attribute: _ } => &text[0..0],
+        Wanted::ReadSelected {
+            attribute: _,
+            selector: _,
+            at: _,
+        } => &text[0..0],
+        Wanted::Invoke { method: _ } => &text[0..0],
+        Wanted::InvokeWith { method: _, at } => cosem::rest_of(text, at),
+    }
+}
+
+// A right proof: the meter's goes out, and H is associated. The proof takes a counter before its envelope.
+fn prove(
+    meter: Meter,
+    secrets: Secrets,
+    head: Head,
+    invoke: u8,
+    counter: u32,
+    out: &mut [u8],
+) -> Received
+    requires { ⌜ replyRoom longestSent ≤ length (now out) ⌝ }
+    ensures { λ r. ⌜ Follows (proved (lineOf (meter .line)) secrets head invoke counter) meter (now (out .entry)) (now (out .exit)) r ⌝ }
+{
+    let line = meter.line;
+    let title = line.title;
+    let han = line.han;
+    let pair = counters::accept(han.counters, counter);
+    let first = counters::take(pair);
+    let second = counters::take(first.counters);
+    let keys = association::lent_keys(secrets);
+    let challenge = association::client_challenge(line);
+    let next = association::associated_ciphered(line, second.counters);
+    let count = replies::send_proof(
+        out,
+        head,
+        keys,
+        title,
+        challenge,
+        invoke,
+        first.number,
+        second.number,
+    );
+    answered(0, count, next, meter)
+}
+
+// A wrong proof: code 250 goes out, and H's association ends.
+fn disprove(
+    meter: Meter,
+    secrets: Secrets,
+    head: Head,
+    invoke: u8,
+    counter: u32,
+    out: &mut [u8],
+) -> Received
+    requires { ⌜ replyRoom longestSent ≤ length (now out) ⌝ }
+    ensures { λ r. ⌜ Follows (disproved (lineOf (meter .line)) secrets head invoke counter) meter (now (out .entry)) (now (out .exit)) r ⌝ }
+{
+    let line = meter.line;
+    let title = line.title;
+    let han = line.han;
+    let pair = counters::accept(han.counters, counter);
+    let first = counters::take(pair);
+    let keys = association::lent_keys(secrets);
+    let without = association::ended(line, Client::Han);
+    let next = association::with_counters(without, first.counters);
+    let number = first.number;
+    let count = replies::send_denial(out, head, keys, title, invoke, 250, number);
+    answered(13, count, next, meter)
+}

@@ -1,0 +1,113 @@
+// An APDU on a link: whether the link is up, what the association permits, then by its tag.
+use crate::Received;
+use crate::ask::ask_enclosed;
+use crate::ask::ask_plain;
+use crate::associate::associate;
+use crate::challenge::hear_challenge;
+use crate::ending::answered;
+use crate::ending::except;
+use crate::links::refuse;
+use cosem::Exception;
+use cosem::Tag;
+use hdlc::Head;
+use meter::Meter;
+use model::Client;
+use protocol::Secrets;
+ghost use mathlib.Core.Path.{_≡_};
+ghost use mathlib.Core.Bool.{true};
+ghost use Prim.Native.Nat.{_≤_};
+ghost use lib.ListN.{length};
+ghost use Rattle.model.specs.Limits.{longestSent, replyRoom};
+ghost use Rattle.model.specs.Soundness.{sound};
+ghost use Rattle.cosem.specs.Tags.{tagIn};
+ghost use Rattle.line.specs.View.{lineOf};
+ghost use Rattle.meter.specs.View.{view};
+ghost use Rattle.protocol.specs.Decide.{byTag, carried, conversed, released};
+ghost use Rattle.p2.specs.Promise.{Follows};
+
+// An APDU.
+pub fn carry(
+    meter: Meter,
+    secrets: Secrets,
+    client: Client,
+    head: Head,
+    apdu: &[u8],
+    out: &mut [u8],
+) -> Received
+    requires { ⌜ (sound (view meter) ≡ true) × (replyRoom longestSent ≤ length (now out)) ⌝ }
+    ensures { λ r. ⌜ Follows (carried (lineOf (meter .line)) secrets client head (now (apdu .entry))) meter (now (out .entry)) (now (out .exit)) r ⌝ }
+{
+    let line = meter.line;
+    if !association::is_up(line, client) {
+        return refuse(meter, head, out);
+    }
+    converse(meter, secrets, client, head, apdu, out)
+}
+
+// An APDU on a link that is up.
+fn converse(
+    meter: Meter,
+    secrets: Secrets,
+    client: Client,
+    head: Head,
+    apdu: &[u8],
+    out: &mut [u8],
+) -> Received
+    requires { ⌜ (sound (view meter) ≡ true) × (replyRoom longestSent ≤ length (now out)) ⌝ }
+    ensures { λ r. ⌜ Follows (conversed (lineOf (meter .line)) secrets client head (now (apdu .entry)) (tagIn (now (apdu .entry)))) meter (now (out .entry)) (now (out .exit)) r ⌝ }
+{
+    let line = meter.line;
+    let tag = cosem::tag_in(apdu);
+    if association::is_unknown(tag) {
+        return except(meter, line, head, Exception::ServiceUnknown, out);
+    }
+    if !association::is_permitted(line, client, tag) {
+        return except(meter, line, head, Exception::ServiceNotAllowed, out);
+    }
+    if !association::is_bit_agreed(line, client, tag) {
+        return except(meter, line, head, Exception::ServiceNotAllowed, out);
+    }
+    by_tag(meter, secrets, client, head, apdu, tag, out)
+}
+
+// An APDU by its tag.
+fn by_tag(
+    meter: Meter,
+    secrets: Secrets,
+    client: Client,
+    head: Head,
+    apdu: &[u8],
+    tag: Tag,
+    out: &mut [u8],
+) -> Received
+    requires { ⌜ (sound (view meter) ≡ true) × (replyRoom longestSent ≤ length (now out)) ⌝ }
+    ensures { λ r. ⌜ Follows (byTag (lineOf (meter .line)) secrets client head (now (apdu .entry)) tag) meter (now (out .entry)) (now (out .exit)) r ⌝ }
+{
+    let line = meter.line;
+    match tag {
+        Tag::Aarq => associate(meter, secrets, client, head, apdu, out),
+        Tag::Rlrq => release(meter, client, head, apdu, out),
+        Tag::GetRequest => ask_plain(meter, secrets, client, head, apdu, out),
+        Tag::GloActionRequest => hear_challenge(meter, secrets, head, apdu, out),
+        Tag::DedGetRequest => ask_enclosed(meter, secrets, head, 0xD0, apdu, out),
+        Tag::DedActionRequest => ask_enclosed(meter, secrets, head, 0xD3, apdu, out),
+        Tag::SetRequest => except(meter, line, head, Exception::ServiceNotAllowed, out),
+        Tag::ActionRequest => except(meter, line, head, Exception::ServiceNotAllowed, out),
+        Tag::DedSetRequest => except(meter, line, head, Exception::ServiceNotAllowed, out),
+        Tag::Unknown => except(meter, line, head, Exception::ServiceUnknown, out),
+    }
+}
+
+// RLRQ: the association ends.
+fn release(meter: Meter, client: Client, head: Head, apdu: &[u8], out: &mut [u8]) -> Received
+    requires { ⌜ replyRoom longestSent ≤ length (now out) ⌝ }
+    ensures { λ r. ⌜ Follows (released (lineOf (meter .line)) client head (now (apdu .entry))) meter (now (out .entry)) (now (out .exit)) r ⌝ }
+{
+    let line = meter.line;
+    if !cosem::is_release(apdu) {
+        return except(meter, line, head, Exception::ServiceUnknown, out);
+    }
+    let next = association::ended(line, client);
+    let count = replies::send_release(out, head);
+    answered(0, count, next, meter)
+}
