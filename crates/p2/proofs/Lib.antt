@@ -1,3 +1,4 @@
 pub mod Endings
 pub mod Lengths
 pub mod Envelopes
+pub mod Runs
