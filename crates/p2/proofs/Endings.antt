@@ -36,9 +36,10 @@ use Rattle.meter.specs.declared.Meter.{Meter}
 use Rattle.meter.specs.View.{view}
 use Rattle.protocol.specs.Clients.{dedicatedKeys}
 use Rattle.protocol.specs.Rulings.{Test, refusalOf, Reply, bytesOf, Ruling, says, asks}
+use Rattle.protocol.specs.Outcomes.{keeping}
 use Rattle.protocol.specs.Decide.{ruled, decide, wrap, around, seal}
 use Rattle.p2.specs.declared.Received.{Received}
-use Rattle.p2.specs.Promise.{lent, received, keeping, Answered, Follows}
+use Rattle.p2.specs.Promise.{lent, received, Answered, Follows}
 
 -- What went out.
 

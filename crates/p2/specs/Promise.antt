@@ -1,7 +1,7 @@
 -- What the frame call promises, of any meter, sound or not, of every frame and of all that is lent.
 use mathlib.Core.Path.{_≡_}
 use mathlib.Core.Bool.{true}
-use mathlib.Core.List.{List, [], _∷_}
+use mathlib.Core.List.{List}
 use Prim.Native.Nat.{ℕ}
 use lib.ListN.{replicate}
 use Rattle.wire.specs.Reading.{filled}
@@ -13,6 +13,7 @@ use Rattle.meter.specs.View.{view}
 use Rattle.protocol.specs.declared.Secrets.{Secrets}
 use Rattle.protocol.specs.Rulings.{Ruling, decision}
 use Rattle.protocol.specs.Decide.{p2}
+use Rattle.protocol.specs.Outcomes.{keeping}
 use Rattle.p2.specs.declared.Received.{Received}
 
 -- what is lent to a call: of the reply room its length
@@ -31,11 +32,7 @@ received n k m = record { refusal = n; count = k; meter = m }
 abbrev pub handed : Received → (before after : List ℕ) → Handed Meter view
 handed r l o = record { refusal = r .refusal; count = r .count; meter = r .meter; before = l; after = o }
 
--- the refusals after which the very meter comes back: those with an empty cell for the meter in document 01's table
-abbrev pub keeping : List ℕ
-keeping = 1 ∷ 2 ∷ 3 ∷ 4 ∷ 5 ∷ 6 ∷ 8 ∷ 9 ∷ 10 ∷ 11 ∷ []
-
--- the frame call: the model's promise at this protocol
+-- the frame call: the model's promise at this protocol; and where the meter is unchanged, the very meter comes back
 pub record Answered (a : Lent) (m : Meter) (l o : List ℕ) (r : Received) : Type 0 where
   pub promised : Promised Meter view p2 (frame a) m (handed r l o)
   pub kept : listed (r .refusal) keeping ≡ true → r .meter ≡ m

@@ -123,12 +123,12 @@ Silent =
     → listed (outcome a m .refusal) (1 ∷ 2 ∷ 3 ∷ 4 ∷ 5 ∷ 6 ∷ 7 ∷ []) ≡ true
     → outcome a m .sent ≡ []
 
--- 1 to 6, 8 to 11: the meter is unchanged
+-- 1 to 6, 8 to 11: the meter is unchanged, the table's cell for it being empty
+abbrev pub keeping : List ℕ
+keeping = 1 ∷ 2 ∷ 3 ∷ 4 ∷ 5 ∷ 6 ∷ 8 ∷ 9 ∷ 10 ∷ 11 ∷ []
+
 abbrev pub Unchanged : Type 0
-Unchanged =
-    (a : Lent) (m : Model)
-    → listed (outcome a m .refusal) (1 ∷ 2 ∷ 3 ∷ 4 ∷ 5 ∷ 6 ∷ 8 ∷ 9 ∷ 10 ∷ 11 ∷ []) ≡ true
-    → outcome a m .next ≡ m
+Unchanged = (a : Lent) (m : Model) → listed (outcome a m .refusal) keeping ≡ true → outcome a m .next ≡ m
 
 -- 7: "that association is dropped", and nothing else
 abbrev pub Dropped : Type 0

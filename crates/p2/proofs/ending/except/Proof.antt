@@ -4,7 +4,7 @@ use Prim.Native.Nat.{ℕ}
 use Rattle.model.specs.Periods.{listed}
 use Rattle.cosem.specs.Tags.{exceptionBytes}
 use Rattle.protocol.specs.Rulings.{apdu}
-use Rattle.p2.specs.Promise.{keeping}
+use Rattle.protocol.specs.Outcomes.{keeping}
 use Rattle.p2.proofs.Endings.{says-line}
 use borrow.Author.Needs.{needs}
 use Rattle.p2.proofs.ending.except.Statement.{statement}
