@@ -1,7 +1,7 @@
 -- How a call ends: from what went out, the number and the line or the body afterwards, to what a ruling of the protocol and
 -- the call itself promise.
 use mathlib.Core.Path.{_≡_, refl, sym, ap, _∙_}
-use mathlib.Core.Bool.{true, false, false≢true}
+use mathlib.Core.Bool.{Bool, true, false, false≢true}
 use mathlib.Core.List.{List, [], _∷_, _++_}
 use Prim.Native.Nat.{ℕ, _+_, _-_, _≤_, _<_}
 use native.Mathlib.Omega.{arith}
@@ -12,9 +12,12 @@ use borrow.Author.Tests.{lt-ltb, le-ltb, eq-eqb, ne-eqb}
 use Rattle.model.specs.Periods.{listed}
 use Rattle.model.specs.Limits.{longestSent, textRoom, envelopeLength}
 use Rattle.model.proofs.LimitFacts.{reply-room}
-use Rattle.model.specs.State.{Line, Body}
+use Rattle.model.specs.declared.Client.{Client}
+use Rattle.model.specs.declared.Client.the-variants.{Verification, Han}
+use Rattle.model.specs.declared.Counters.{Counters}
+use Rattle.model.specs.State.{Association, Peer, Line, Body}
 use Rattle.model.specs.Objects.{Request, Service, get, action, Meaning, meaning, Result, granted, denied, refusalOf as resultNumber, attributeRead, methodInvoked, getAnswer, actionAnswer, answered, turned}
-use Rattle.model.specs.Soundness.{sound}
+use Rattle.model.specs.Soundness.{isNone, sound}
 use Rattle.model.specs.Calls.{Lent, Wrap, lentRefusal, act, step}
 use Rattle.wire.specs.Wrote.{Wrote}
 use Rattle.wire.specs.Reading.{filled}
@@ -34,12 +37,14 @@ use Rattle.body.specs.declared.BodyState.{BodyState}
 use Rattle.body.specs.View.{bodyOf}
 use Rattle.meter.specs.declared.Meter.{Meter}
 use Rattle.meter.specs.View.{view}
-use Rattle.protocol.specs.Clients.{dedicatedKeys}
+use Rattle.association.specs.Ends.{Wiped}
+use Rattle.protocol.specs.Clients.{peer, withPeer, associates, withCounters, dedicatedKeys}
 use Rattle.protocol.specs.Rulings.{Test, refusalOf, Reply, bytesOf, Ruling, says, asks}
 use Rattle.protocol.specs.Outcomes.{keeping}
-use Rattle.protocol.specs.Decide.{ruled, decide, wrap, around, seal}
+use Rattle.counters.specs.Window.{accepting}
+use Rattle.protocol.specs.Decide.{accepted, ruled, decide, wrap, around, seal}
 use Rattle.p2.specs.declared.Received.{Received}
-use Rattle.p2.specs.Promise.{lent, received, Answered, Follows}
+use Rattle.p2.specs.Promise.{lent, received, Wipes, LeavesNothing, SameAssociations, Answered, Follows}
 
 -- What went out.
 
@@ -50,22 +55,68 @@ sent-over {l} {m} {o} {xs} {bs} w s h = record { holds = s .holds ∙ ap (λ (t 
 pub nothing-sent : (l : List ℕ) → Sent [] l l 0
 nothing-sent l = record { holds = refl; count = refl }
 
+-- Associations that end.
+
+-- a client that had an association and has the same one now has not lost it
+no-end : {b : Bool} {P : Type 0} → b ≡ false → b ≡ true → P
+no-end h q = absurd (false≢true (sym h ∙ q))
+
+module _ (next : LineState) where
+  -- one client's association ends, and the other's is as it was
+  pub ends-one : (d : Client) (p : Peer) (l : Line) → Wiped d next → Wipes l (withPeer d p l) next
+  ends-one Verification p l w Verification h q = w
+  ends-one Verification p l w Han h q = no-end h q
+  ends-one Han p l w Verification h q = no-end h q
+  ends-one Han p l w Han h q = w
+
+  -- one client has an association
+  pub stands-one : (d : Client) (x : Association) (l : Line) → isNone x ≡ false → Wipes l (associates d x l) next
+  stands-one Verification x l e Verification h q = no-end e q
+  stands-one Verification x l e Han h q = no-end h q
+  stands-one Han x l e Verification h q = no-end h q
+  stands-one Han x l e Han h q = no-end e q
+
+  -- counters are no part of it
+  pub counted : (n : Counters) (l : Line) {m : Line} → Wipes m l next → Wipes m (withCounters n l) next
+  counted n l w Verification h q = w Verification h q
+  counted n l w Han h q = w Han h q
+
+pub counted-same : (n : Counters) (l : Line) → SameAssociations l (withCounters n l)
+counted-same n l Verification = refl
+counted-same n l Han = refl
+
+-- nor is the last accepted counter
+pub accepted-same : (counter : ℕ) (l : Line) {n : Line} → n ≡ accepted counter l → SameAssociations l n
+accepted-same counter l e d = ap (λ (y : Line). peer d y .association) e ∙ counted-same (accepting (l .han .counters) counter) l d
+
+pub same-wipes : {l n : Line} (next : LineState) → SameAssociations l n → Wipes l n next
+same-wipes next k c h q = no-end h (sym (ap isNone (k c)) ∙ q)
+
+-- by the line of the code
+module _ (m : Meter) (next : LineState) {becomes : Line} (v : lineOf next ≡ becomes) where
+  leaves : (b : BodyState) → Wipes (lineOf (m .line)) becomes next → LeavesNothing m (record { line = next; body = b })
+  leaves b w c h q = w c h (ap (λ (y : Line). isNone (peer c y .association)) (sym v) ∙ q)
+
+kept-leaves : (m : Meter) → LeavesNothing m m
+kept-leaves m c h q = no-end h q
+
 -- Rulings.
 
 module _ (t : Test) (x : Reply) (m : Meter) {l o : List ℕ} {n k : ℕ} (e : n ≡ refusalOf t) (s : Sent (bytesOf x) l o k) where
   -- the line answers, and the meter is as it was
   pub says-kept : Follows (says t x (lineOf (m .line))) m l o (received n k m)
   unfolding view
-  says-kept = record { gave = record { refusal = e; count = s .count; meter = refl; room = s .holds }; kept = λ _. refl }
+  says-kept = record { gave = record { refusal = e; count = s .count; meter = refl; room = s .holds }; kept = λ _. refl; wiped = kept-leaves m }
 
   -- the line answers, and becomes another
-  pub says-line : (next : LineState) {becomes : Line} → lineOf next ≡ becomes → listed (refusalOf t) keeping ≡ false
+  pub says-line : (next : LineState) {becomes : Line} → lineOf next ≡ becomes → listed (refusalOf t) keeping ≡ false → Wipes (lineOf (m .line)) becomes next
       → Follows (says t x becomes) m l o (received n k (record { line = next; body = m .body }))
   unfolding view
-  says-line next {becomes} v f =
+  says-line next {becomes} v f w =
       record {
         gave = record { refusal = e; count = s .count; meter = ap (λ (y : Line). record { line = y; body = bodyOf (m .body) }) v; room = s .holds };
         kept = λ g. absurd (false≢true (sym f ∙ ap (λ (y : ℕ). listed y keeping) (sym e) ∙ g));
+        wiped = leaves m next v (m .body) w;
       }
 
 -- what one ruling comes to, by another that is the same
@@ -91,12 +142,14 @@ pub serves : (q : Request) (w : Wrap) (m : Meter) (next : LineState) {becomes : 
     → n ≡ turned q (bodyOf (m .body)) .refusal
     → bodyOf b ≡ turned q (bodyOf (m .body)) .body
     → Sent (seal becomes w (turned q (bodyOf (m .body)) .bytes)) l o k
+    → SameAssociations (lineOf (m .line)) becomes
     → Follows (asks q w becomes) m l o (received n k (record { line = next; body = b }))
 unfolding view
-serves q w m next {becomes} b v e f s =
+serves q w m next {becomes} b v e f s a =
     record {
       gave = record { refusal = e; count = s .count; meter = rw (v, f) refl; room = s .holds };
       kept = λ g. absurd (false≢true (sym (turned-free q (bodyOf (m .body))) ∙ ap (λ (y : ℕ). listed y keeping) (sym e) ∙ g));
+      wiped = leaves m next v b (same-wipes next a);
     }
 
 -- an answer of the body has some bytes
@@ -183,15 +236,15 @@ module _ (a : Lent) (m : Meter) {l : List ℕ} where
   -- refused by what is lent
   pub lent-refused : {n : ℕ} → lentRefusal a ≡ n → eqb n 0 ≡ false → Answered a m l l (received n 0 m)
   unfolding step
-  lent-refused {n} e z = record { promised = rw (e, z) (record { refusal = refl; count = refl; meter = refl; room = refl }); kept = λ _. refl }
+  lent-refused {n} e z = record { promised = rw (e, z) (record { refusal = refl; count = refl; meter = refl; room = refl }); kept = λ _. refl; wiped = kept-leaves m }
 
   module _ (e : lentRefusal a ≡ 0) where
     -- refused by the state
     pub unsound-refused : sound (view m) ≡ false → Answered a m l l (received 3 0 m)
     unfolding step
-    unsound-refused u = record { promised = rw (e, u) (record { refusal = refl; count = refl; meter = refl; room = refl }); kept = λ _. refl }
+    unsound-refused u = record { promised = rw (e, u) (record { refusal = refl; count = refl; meter = refl; room = refl }); kept = λ _. refl; wiped = kept-leaves m }
 
     -- by the protocol
     pub ruled-answered : {o : List ℕ} {r : Received} → sound (view m) ≡ true → Follows (ruled (view m .line) a) m l o r → Answered a m l o r
     unfolding step act decide
-    ruled-answered u f = record { promised = rw (e, u) (f .gave); kept = f .kept }
+    ruled-answered u f = record { promised = rw (e, u) (f .gave); kept = f .kept; wiped = f .wiped }

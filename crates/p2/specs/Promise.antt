@@ -1,19 +1,26 @@
 -- What the frame call promises, of any meter, sound or not, of every frame and of all that is lent.
 use mathlib.Core.Path.{_≡_}
-use mathlib.Core.Bool.{true}
+use mathlib.Core.Bool.{true, false}
 use mathlib.Core.List.{List}
 use Prim.Native.Nat.{ℕ}
 use lib.ListN.{replicate}
 use Rattle.wire.specs.Reading.{filled}
+use Rattle.model.specs.declared.Client.{Client}
 use Rattle.model.specs.Periods.{listed}
+use Rattle.model.specs.State.{Line}
+use Rattle.model.specs.Soundness.{isNone}
 use Rattle.model.specs.Calls.{Lent, frame, decided}
 use Rattle.model.specs.Demand3.{Handed, Gave, Promised}
+use Rattle.line.specs.declared.LineState.{LineState}
+use Rattle.line.specs.View.{lineOf}
 use Rattle.meter.specs.declared.Meter.{Meter}
 use Rattle.meter.specs.View.{view}
 use Rattle.protocol.specs.declared.Secrets.{Secrets}
+use Rattle.protocol.specs.Clients.{peer}
 use Rattle.protocol.specs.Rulings.{Ruling, decision}
 use Rattle.protocol.specs.Decide.{p2}
 use Rattle.protocol.specs.Outcomes.{keeping}
+use Rattle.association.specs.Ends.{Wiped}
 use Rattle.p2.specs.declared.Received.{Received}
 
 -- what is lent to a call: of the reply room its length
@@ -32,12 +39,28 @@ received n k m = record { refusal = n; count = k; meter = m }
 abbrev pub handed : Received → (before after : List ℕ) → Handed Meter view
 handed r l o = record { refusal = r .refusal; count = r .count; meter = r .meter; before = l; after = o }
 
--- the frame call: the model's promise at this protocol; and where the meter is unchanged, the very meter comes back
+-- What an ended association leaves: a client that had one before and has none after left zeros for its agreed services, its key
+-- and its challenges. The papers know no such bytes, and the view does not show them.
+
+abbrev pub Wipes : (before after : Line) → LineState → Type 0
+Wipes l n next = (c : Client) → isNone (peer c l .association) ≡ false → isNone (peer c n .association) ≡ true → Wiped c next
+
+abbrev pub LeavesNothing : Meter → Meter → Type 0
+LeavesNothing m n = Wipes (lineOf (m .line)) (lineOf (n .line)) (n .line)
+
+-- both lines have the same associations
+abbrev pub SameAssociations : Line → Line → Type 0
+SameAssociations l n = (c : Client) → peer c n .association ≡ peer c l .association
+
+-- the frame call: the model's promise at this protocol; where the meter is unchanged, the very meter comes back; and nothing is
+-- left of an association that ended
 pub record Answered (a : Lent) (m : Meter) (l o : List ℕ) (r : Received) : Type 0 where
   pub promised : Promised Meter view p2 (frame a) m (handed r l o)
   pub kept : listed (r .refusal) keeping ≡ true → r .meter ≡ m
+  pub wiped : LeavesNothing m (r .meter)
 
 -- a function within the call: what a ruling of the protocol comes to
 pub record Follows (x : Ruling) (m : Meter) (l o : List ℕ) (r : Received) : Type 0 where
   pub gave : Gave Meter view (decided p2 (decision x) (view m)) (handed r l o)
   pub kept : listed (r .refusal) keeping ≡ true → r .meter ≡ m
+  pub wiped : LeavesNothing m (r .meter)

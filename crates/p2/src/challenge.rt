@@ -220,8 +220,8 @@ fn disprove(
     let pair = counters::accept(han.counters, counter);
     let first = counters::take(pair);
     let keys = association::lent_keys(secrets);
-    let without = association::ended(line, Client::Han);
-    let next = association::with_counters(without, first.counters);
+    let advanced = association::with_counters(line, first.counters);
+    let next = association::ended(advanced, Client::Han);
     let number = first.number;
     let count = replies::send_denial(out, head, keys, title, invoke, 250, number);
     answered(13, count, next, meter)

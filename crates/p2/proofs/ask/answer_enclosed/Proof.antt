@@ -10,7 +10,7 @@ use Rattle.line.specs.View.{lineOf, lineSound}
 use Rattle.body.specs.View.{bodyOf, bodySound}
 use Rattle.meter.proofs.MeterLaws.{sound-is}
 use Rattle.protocol.specs.Clients.{withCounters, dedicatedKeys}
-use Rattle.p2.proofs.Endings.{answer-short, enclosed-sent, serves}
+use Rattle.p2.proofs.Endings.{answer-short, counted-same, enclosed-sent, serves}
 use borrow.Author.Needs.{needs}
 use Rattle.p2.proofs.ask.answer_enclosed.Statement.{statement}
 use Rattle.p2.proofs.ask.answer_enclosed.Tie as tie
@@ -37,7 +37,7 @@ returns c =
     let e : c .before .before .before .before .before .before .before .before .before .before .before .before .before .before .take .result ≡ taken (accepting (a .meter .line .han .counters) (a .counter)) = c .before .before .before .before .before .before .before .before .before .before .before .before .before .before .take .ensures ∙ ap taken (c .before .before .before .before .before .before .before .before .before .before .before .before .before .before .before .accept .ensures) in
     let v = c .before .before .before .before .before .before .before .before .before .before .before .before .before .with-counters .ensures ∙ ap (λ (n : Taken). withCounters (n .counters) (lineOf (a .meter .line))) e in
     rw (sym (c .before .before .before .before .before .before .before .before .before .before .before .before .is-selective .ensures)) (serves _ _ (a .meter) _ _ v (t .refusal) (t .body)
-    (enclosed-sent _ _ 20 t (a .ak) _ (a .head) (a .tag) _ _ _ (omega arith) (c .before .before .before .before .before .before .before .before .before .before .before .before .before .before .before .before .before .before .before .before .before .pre .1) (c .before .before .before .before .before .before .dedicated-keys .ensures ∙ ap (dedicatedKeys (a .ak)) v) refl (ap (λ (n : Taken). n .number) e) (c .before .before .before .send-enclosed .ensures)))
+    (enclosed-sent _ _ 20 t (a .ak) _ (a .head) (a .tag) _ _ _ (omega arith) (c .before .before .before .before .before .before .before .before .before .before .before .before .before .before .before .before .before .before .before .before .before .pre .1) (c .before .before .before .before .before .before .dedicated-keys .ensures ∙ ap (dedicatedKeys (a .ak)) v) refl (ap (λ (n : Taken). n .number) e) (c .before .before .before .send-enclosed .ensures)) (counted-same (taken (accepting (a .meter .line .han .counters) (a .counter)) .counters) (lineOf (a .meter .line))))
 
 pub answer-enclosed-spec : {M : Type 1} → statement M
 answer-enclosed-spec = tie.close (tie.spec (λ c κs. search needs) (λ c κs. search needs) (λ c κs. search needs) (λ c κs. search needs) answer-requires (λ c. search needs) (λ c κs. search needs) add-send-enclosed send-enclosed-requires (λ c. search needs) returns)

@@ -25,7 +25,7 @@ returns : tie.Need-returns
 returns c =
     λ ak. let t = c .before .before .before .before .before .before .before .before .answer .ensures in
     let a = c .before .before .before .before .before .before .before .before .before .before .before .before .before .before .before .args in
-    rw (sym (c .before .before .before .before .before .before .before .before .before .before .is-selective .ensures)) (serves _ _ (a .meter) (a .meter .line) _ refl (t .refusal) (t .body) (plain-sent _ _ 11 t ak (a .head) (lineOf (a .meter .line)) (omega arith) (c .before .before .before .send-plain .ensures)))
+    rw (sym (c .before .before .before .before .before .before .before .before .before .before .is-selective .ensures)) (serves _ _ (a .meter) (a .meter .line) _ refl (t .refusal) (t .body) (plain-sent _ _ 11 t ak (a .head) (lineOf (a .meter .line)) (omega arith) (c .before .before .before .send-plain .ensures)) (λ d. refl))
 
 pub answer-plain-spec : {M : Type 1} → statement M
 answer-plain-spec = tie.close (tie.spec (λ c κs. search needs) answer-requires (λ c. search needs) send-plain-requires (λ c. search needs) returns)

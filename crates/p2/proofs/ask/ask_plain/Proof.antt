@@ -11,7 +11,7 @@ returns c =
 
 returns-2 : tie.Need-returns-2
 returns-2 c =
-    rw (sym (c .before .before .before .before .before .before .read-get .ensures) ∙ c .before .before .before .before .enum-told .given .1) (c .before .before .except .ensures malformedApdu refl)
+    rw (sym (c .before .before .before .before .before .before .read-get .ensures) ∙ c .before .before .before .before .enum-told .given .1) (c .before .before .except .ensures malformedApdu refl (λ d. refl))
 
 pub ask-plain-spec : {M : Type 1} → statement M
 ask-plain-spec = tie.close (tie.spec (λ c κs. search needs) (λ c. search needs) (λ c κs. search needs) (λ c. search needs) (λ c κs. search needs) (λ c. search needs) returns (λ c. search needs) returns-2)

@@ -3,6 +3,7 @@ use mathlib.Core.Path.{refl, sym, _∙_}
 use borrow.Author.Tests.{not-true, not-false}
 use Rattle.protocol.specs.Rulings.{notTheChallenge}
 use Rattle.protocol.specs.Decide.{challenged}
+use Rattle.p2.proofs.Endings.{accepted-same}
 use borrow.Author.Needs.{needs}
 use Rattle.p2.proofs.challenge.judge.Statement.{statement}
 use Rattle.p2.proofs.challenge.judge.Tie as tie
@@ -10,7 +11,7 @@ use Rattle.p2.proofs.challenge.judge.Tie as tie
 returns : tie.Need-returns
 unfolding challenged
 returns c =
-    rw (sym (c .before .before .before .before .before .before .is-challenge .ensures) ∙ not-true _ (c .before .before .before .before .before .if1 .taken), sym (c .before .before .before .before .accept-counter .ensures)) (c .before .before .except .ensures notTheChallenge refl)
+    rw (sym (c .before .before .before .before .before .before .is-challenge .ensures) ∙ not-true _ (c .before .before .before .before .before .if1 .taken), sym (c .before .before .before .before .accept-counter .ensures)) (c .before .before .except .ensures notTheChallenge refl (λ d. accepted-same _ _ (c .before .before .before .before .accept-counter .ensures) d))
 
 returns-2 : tie.Need-returns-2
 unfolding challenged

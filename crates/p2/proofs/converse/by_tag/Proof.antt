@@ -31,19 +31,19 @@ returns-6 c =
 
 returns-7 : tie.Need-returns-7
 returns-7 c =
-    rw (c .before .before .before .before .enum-told7 .given .1) (c .before .before .except .ensures tagNotPermitted refl)
+    rw (c .before .before .before .before .enum-told7 .given .1) (c .before .before .except .ensures tagNotPermitted refl (λ d. refl))
 
 returns-8 : tie.Need-returns-8
 returns-8 c =
-    rw (c .before .before .before .before .enum-told8 .given .1) (c .before .before .except2 .ensures tagNotPermitted refl)
+    rw (c .before .before .before .before .enum-told8 .given .1) (c .before .before .except2 .ensures tagNotPermitted refl (λ d. refl))
 
 returns-9 : tie.Need-returns-9
 returns-9 c =
-    rw (c .before .before .before .before .enum-told9 .given .1) (c .before .before .except3 .ensures tagNotPermitted refl)
+    rw (c .before .before .before .before .enum-told9 .given .1) (c .before .before .except3 .ensures tagNotPermitted refl (λ d. refl))
 
 returns-10 : tie.Need-returns-10
 returns-10 c =
-    rw (c .before .before .before .before .enum-told10 .given .1) (c .before .before .except4 .ensures unknownTag refl)
+    rw (c .before .before .before .before .enum-told10 .given .1) (c .before .before .except4 .ensures unknownTag refl (λ d. refl))
 
 pub by-tag-spec : {M : Type 1} → statement M
 by-tag-spec = tie.close (tie.spec (λ c. search needs) (λ c κs. search needs) (λ c. search needs) (λ c κs. search needs) (λ c. search needs) (λ c κs. search needs) (λ c. search needs) (λ c κs. search needs) (λ c. search needs) (λ c κs. search needs) (λ c. search needs) (λ c κs. search needs) (λ c. search needs) (λ c κs. search needs) (λ c. search needs) (λ c κs. search needs) (λ c. search needs) (λ c κs. search needs) (λ c. search needs) (λ c κs. search needs) (λ c. search needs) returns (λ c. search needs) returns-2 (λ c. search needs) returns-3 (λ c. search needs) returns-4 (λ c. search needs) returns-5 (λ c. search needs) returns-6 (λ c. search needs) returns-7 (λ c. search needs) returns-8 (λ c. search needs) returns-9 (λ c. search needs) returns-10)
