@@ -20,7 +20,8 @@ ghost use Rattle.acse.specs.Initiate.{readRequest};
 ghost use Rattle.envelope.specs.Opening.{opened};
 ghost use Rattle.line.specs.View.{lineOf};
 ghost use Rattle.protocol.specs.Clients.{lentKeys, peer};
-ghost use Rattle.protocol.specs.Decide.{acceptedCiphered, acceptedPlain, associating, enclosed, initiated, rejected};
+ghost use Rattle.protocol.specs.Rulings.{aarqNotAccepted, refuses};
+ghost use Rattle.protocol.specs.Decide.{acceptedCiphered, acceptedPlain, associating, enclosed, initiated};
 ghost use Rattle.p2.specs.Promise.{Follows};
 
 // An AARQ.
@@ -57,7 +58,7 @@ pub fn associate(
 // The AARE that does not accept.
 fn reject_aarq(meter: Meter, client: Client, head: Head, out: &mut [u8]) -> Received
     requires { ⌜ replyRoom longestSent ≤ length (now out) ⌝ }
-    ensures { λ r. ⌜ Follows (rejected client head (lineOf (meter .line))) meter (now (out .entry)) (now (out .exit)) r ⌝ }
+    ensures { λ r. ⌜ Follows (refuses aarqNotAccepted client head (lineOf (meter .line))) meter (now (out .entry)) (now (out .exit)) r ⌝ }
 {
     let count = replies::send_rejected(out, head, client);
     Received {

@@ -9,8 +9,8 @@ ghost use Prim.Native.Nat.{_≤_};
 ghost use lib.ListN.{length};
 ghost use Rattle.model.specs.Limits.{longestSent, replyRoom};
 ghost use Rattle.line.specs.View.{lineOf};
-ghost use Rattle.protocol.specs.Rulings.{Test, refusalOf};
-ghost use Rattle.protocol.specs.Decide.{excepted};
+ghost use Rattle.cosem.specs.Tags.{exceptionBytes};
+ghost use Rattle.protocol.specs.Rulings.{apdu, refusalOf, says, Test};
 ghost use Rattle.p2.specs.Promise.{Follows, received, SameAssociations};
 
 // Nothing goes out, and the meter is as it was.
@@ -40,7 +40,7 @@ pub fn answered(refusal: u8, count: usize, line: LineState, meter: Meter) -> Rec
 // An exception, and the meter has this line, with the same associations.
 pub fn except(meter: Meter, line: LineState, head: Head, e: Exception, out: &mut [u8]) -> Received
     requires { ⌜ replyRoom longestSent ≤ length (now out) ⌝ }
-    ensures { λ r. ⌜ ((t : Test) → refusalOf t ≡ 12 → SameAssociations (lineOf (meter .line)) (lineOf line) → Follows (excepted t e head (lineOf line)) meter (now (out .entry)) (now (out .exit)) r) ⌝ }
+    ensures { λ r. ⌜ ((t : Test) → refusalOf t ≡ 12 → SameAssociations (lineOf (meter .line)) (lineOf line) → Follows (says t (apdu head (exceptionBytes e)) (lineOf line)) meter (now (out .entry)) (now (out .exit)) r) ⌝ }
 {
     let count = replies::send_exception(out, head, e);
     answered(12, count, line, meter)

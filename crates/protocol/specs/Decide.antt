@@ -22,14 +22,12 @@ use Rattle.hdlc.specs.Tests.{replyLlc}
 use Rattle.hdlc.specs.Reading.{readFrame}
 use Rattle.cosem.specs.declared.Tag.{Tag}
 use Rattle.cosem.specs.declared.Tag.the-variants.{Aarq, Rlrq, GetRequest, SetRequest, ActionRequest, GloActionRequest, DedGetRequest, DedSetRequest, DedActionRequest, Unknown}
-use Rattle.cosem.specs.declared.Exception.{Exception}
-use Rattle.cosem.specs.declared.Exception.the-variants.{ServiceNotAllowed, ServiceUnknown}
 use Rattle.cosem.specs.declared.Wanted.{Wanted}
 use Rattle.cosem.specs.declared.Wanted.the-variants.{Read, ReadSelected, Invoke, InvokeWith}
 use Rattle.cosem.specs.declared.Asked.{Asked}
 use Rattle.cosem.specs.declared.Reading.{Reading}
 use Rattle.cosem.specs.declared.Reading.the-variants.{Asks, Malformed}
-use Rattle.cosem.specs.Tags.{tagIn, isRelease, releaseResponse, exceptionBytes}
+use Rattle.cosem.specs.Tags.{tagIn, isRelease, releaseResponse}
 use Rattle.cosem.specs.Requests.{readGet, readAction, nameIn, requested}
 use Rattle.acse.specs.declared.Aarq.the-variants.{Plain, Ciphered, Departs}
 use Rattle.acse.specs.declared.Aarq.{Aarq as ReadAarq}
@@ -37,7 +35,7 @@ use Rattle.acse.specs.declared.InitiateRequest.{InitiateRequest}
 use Rattle.acse.specs.declared.InitiateRequest.the-variants.{Accepted, Departs as RequestDeparts}
 use Rattle.acse.specs.Initiate.{readRequest, initiateResponse}
 use Rattle.acse.specs.Aarq.{readAarq}
-use Rattle.acse.specs.Aare.{plainAare, cipheredAareHead, rejectedAare}
+use Rattle.acse.specs.Aare.{plainAare, cipheredAareHead}
 use Rattle.counters.specs.Advance.{taken}
 use Rattle.counters.specs.Window.{inWindow, accepting}
 use Rattle.envelope.specs.declared.Keys.{Keys}
@@ -46,7 +44,7 @@ use Rattle.envelope.specs.Opening.{Opened, fails, opens, opened}
 use Rattle.envelope.specs.Challenge.{rightProof, proofValue}
 use Rattle.protocol.specs.declared.Secrets.{Secrets}
 use Rattle.protocol.specs.Clients.{peer, withPeer, linked, associates, withCounters, agreedIn, keyIn, clientChallenge, meterChallenge, selectiveIn, lentKeys, dedicatedKeys, permitted, bitAgreed, isUnknown}
-use Rattle.protocol.specs.Rulings.{Test, none as noTest, frame, linkUpWithInformation, p5HoldsV, linkDownWhileDown, dataWhileDown, unknownTag, tagNotPermitted, bitNotAgreed, aarqNotAccepted, envelopeUnopened, outsideWindow, malformedApdu, notTheChallenge, wrongProof, nothing, ua, dm, reject, apdu, Ruling, says, asks, decision}
+use Rattle.protocol.specs.Rulings.{none as noTest, frame, linkUpWithInformation, p5HoldsV, linkDownWhileDown, dataWhileDown, unknownTag, tagNotPermitted, bitNotAgreed, aarqNotAccepted, envelopeUnopened, outsideWindow, malformedApdu, notTheChallenge, wrongProof, nothing, ua, reject, apdu, Ruling, says, asks, refuses, decision}
 
 -- Links.
 
@@ -58,25 +56,16 @@ heldByP5 Han l = false
 
 unfoldable pub linkUp : Line → Client → Head → Bool → Ruling
 linkUp l c h information =
-    cond information (says linkUpWithInformation (dm h) l)
-    (cond (heldByP5 c l) (says p5HoldsV (dm h) l)
+    cond information (refuses linkUpWithInformation c h l)
+    (cond (heldByP5 c l) (refuses p5HoldsV c h l)
     (says noTest (ua h) (withPeer c (linked true (peer c l)) l)))
 
 -- "53: if up, UA, and this client's link and association end; else DM"
 unfoldable pub linkDown : Line → Client → Head → Ruling
 linkDown l c h =
-    cond (peer c l .up) (says noTest (ua h) (withPeer c (linked false (peer c l)) l)) (says linkDownWhileDown (dm h) l)
-
--- Exceptions: "exceptions are plain".
-
-abbrev pub excepted : Test → Exception → Head → Line → Ruling
-excepted t e h l = says t (apdu h (exceptionBytes e)) l
+    cond (peer c l .up) (says noTest (ua h) (withPeer c (linked false (peer c l)) l)) (refuses linkDownWhileDown c h l)
 
 -- Associations.
-
--- a departure is refusal 11, "an envelope that does not open included"
-abbrev pub rejected : Client → Head → Line → Ruling
-rejected c h l = says aarqNotAccepted (apdu h (rejectedAare c)) l
 
 -- "V is then associated": agreed are the services proposed and offered
 unfoldable pub acceptedPlain : Line → Head → (proposed : List ℕ) → Ruling
@@ -96,10 +85,10 @@ acceptedCiphered l a h client key proposed counter =
 -- by H's opened initiate request
 abbrev pub initiated : Line → Secrets → Head → (client text : List ℕ) → (counter : ℕ) → InitiateRequest → Ruling
 initiated l a h client text counter (Accepted k s) = acceptedCiphered l a h client (take 16 (drop k text)) (take 3 (drop s text)) counter
-initiated l a h client text counter RequestDeparts = rejected Han h l
+initiated l a h client text counter RequestDeparts = refuses aarqNotAccepted Han h l
 
 abbrev pub enclosed : Line → Secrets → Head → (client : List ℕ) → Opened → Ruling
-enclosed l a h client fails = rejected Han h l
+enclosed l a h client fails = refuses aarqNotAccepted Han h l
 enclosed l a h client (opens counter text) = initiated l a h client text counter (readRequest text)
 
 -- by the client's AARQ, which is plain from V alone and ciphered from H alone
@@ -107,12 +96,12 @@ abbrev pub associating : Line → Secrets → Client → Head → List ℕ → R
 associating l a c h s (Plain p) = acceptedPlain l h (take 3 (drop p s))
 associating l a c h s (Ciphered d e) =
     enclosed l a h (take 8 (drop d s)) (opened (lentKeys a) (l .han .peer .title) 0x21 (drop e s))
-associating l a c h s Departs = rejected c h l
+associating l a c h s Departs = refuses aarqNotAccepted c h l
 
 -- "RLRQ is 62 03 80 01 00, answered 63 03 80 01 00, plain, and the state is none"
 unfoldable pub released : Line → Client → Head → List ℕ → Ruling
 released l c h s =
-    cond (isRelease s) (says noTest (apdu h releaseResponse) (associates c none l)) (excepted malformedApdu ServiceUnknown h l)
+    cond (isRelease s) (says noTest (apdu h releaseResponse) (associates c none l)) (refuses malformedApdu c h l)
 
 -- Requests.
 
@@ -122,7 +111,7 @@ wrap ak h tag = record { destination = h .source; source = h .destination; tag =
 
 -- a plain request
 abbrev pub asked : Line → Secrets → Client → Head → List ℕ → Reading → Ruling
-asked l a c h s Malformed = excepted malformedApdu ServiceUnknown h l
+asked l a c h s Malformed = refuses malformedApdu c h l
 asked l a c h s (Asks q) = asks (requested c (selectiveIn c l) s q) (wrap (a .ak) h 0xC0) l
 
 -- the line after an envelope's counter has become the last accepted, and after the meter's own has gone on besides
@@ -134,7 +123,7 @@ advanced l = withCounters (taken (l .han .counters) .counters) l
 
 -- an opened request of H: its answer will take the meter's next counter, granted or denied
 abbrev pub askedInside : Line → Secrets → Head → (tag counter : ℕ) → List ℕ → Reading → Ruling
-askedInside l a h tag counter text Malformed = excepted malformedApdu ServiceUnknown h (accepted counter l)
+askedInside l a h tag counter text Malformed = refuses malformedApdu Han h (accepted counter l)
 askedInside l a h tag counter text (Asks q) =
     asks (requested Han (selectiveIn Han l) text q) (wrap (a .ak) h tag) (advanced (accepted counter l))
 
@@ -191,12 +180,12 @@ provesItself l a counter text q =
 
 unfoldable pub challenged : Line → Secrets → Head → (counter : ℕ) → List ℕ → Asked → Ruling
 challenged l a h counter text q =
-    cond (not (isChallenge text q)) (excepted notTheChallenge ServiceNotAllowed h (accepted counter l))
+    cond (not (isChallenge text q)) (refuses notTheChallenge Han h (accepted counter l))
     (cond (provesItself l a counter text q) (proved l a h (q .invoke) counter)
     (disproved l a h (q .invoke) counter))
 
 abbrev pub answeredChallenge : Line → Secrets → Head → (counter : ℕ) → List ℕ → Reading → Ruling
-answeredChallenge l a h counter text Malformed = excepted malformedApdu ServiceUnknown h (accepted counter l)
+answeredChallenge l a h counter text Malformed = refuses malformedApdu Han h (accepted counter l)
 answeredChallenge l a h counter text (Asks q) = challenged l a h counter text q
 
 -- Envelopes of H.
@@ -228,24 +217,24 @@ byTag l a c h s GloActionRequest = challengeEnclosed l a h s
 byTag l a c h s DedGetRequest = requestEnclosed l a h 0xD0 s
 byTag l a c h s DedActionRequest = requestEnclosed l a h 0xD3 s
 -- never reached: `conversed` refuses them
-byTag l a c h s SetRequest = excepted tagNotPermitted ServiceNotAllowed h l
-byTag l a c h s ActionRequest = excepted tagNotPermitted ServiceNotAllowed h l
-byTag l a c h s DedSetRequest = excepted tagNotPermitted ServiceNotAllowed h l
-byTag l a c h s Unknown = excepted unknownTag ServiceUnknown h l
+byTag l a c h s SetRequest = refuses tagNotPermitted c h l
+byTag l a c h s ActionRequest = refuses tagNotPermitted c h l
+byTag l a c h s DedSetRequest = refuses tagNotPermitted c h l
+byTag l a c h s Unknown = refuses unknownTag c h l
 
 -- "Tests in order: a tag other than .. D8 02 02; a tag not permitted here, or GET or ACTION without its agreed bit, D8 01 01"
 unfoldable pub conversed : Line → Secrets → Client → Head → List ℕ → Tag → Ruling
 conversed l a c h s t =
-    cond (isUnknown t) (excepted unknownTag ServiceUnknown h l)
-    (cond (not (permitted c (peer c l .association) t)) (excepted tagNotPermitted ServiceNotAllowed h l)
-    (cond (not (bitAgreed (agreedIn (peer c l .association)) t)) (excepted bitNotAgreed ServiceNotAllowed h l)
+    cond (isUnknown t) (refuses unknownTag c h l)
+    (cond (not (permitted c (peer c l .association) t)) (refuses tagNotPermitted c h l)
+    (cond (not (bitAgreed (agreedIn (peer c l .association)) t)) (refuses bitNotAgreed c h l)
     (byTag l a c h s t)))
 
 -- By the frame.
 
 -- "13 while down: DM"
 unfoldable pub carried : Line → Secrets → Client → Head → List ℕ → Ruling
-carried l a c h s = cond (peer c l .up) (conversed l a c h s (tagIn s)) (says dataWhileDown (dm h) l)
+carried l a c h s = cond (peer c l .up) (conversed l a c h s (tagIn s)) (refuses dataWhileDown c h l)
 
 abbrev pub heard : Line → Secrets → (received : List ℕ) → Frame → Ruling
 heard l a f (Unanswered t) = says (frame t) nothing l
@@ -271,7 +260,7 @@ decide l a = decision (ruled l a)
 abbrev pub answerTag : ℕ → ℕ
 answerTag tag = tag + 4
 
--- plain to V, in an envelope under the counter that was taken to H
+-- to V plain; to H in an envelope under the counter that was taken
 unfoldable pub around : Line → Wrap → List ℕ → List ℕ
 around l w text =
     cond (eqb (w .tag) 0xC0) text (sealedEnvelope (dedicatedKeys (w .ak) l) (l .title) (answerTag (w .tag)) (l .han .counters .sent) text)
