@@ -1,23 +1,24 @@
 -- What makes a part a codec: what is written is as long as the part says, is read back, and is taken; and what was taken and
 -- read is written back byte for byte. Each way of putting parts together keeps it.
-use mathlib.Core.Path.{_≡_, refl, sym, ap, ap₂, _∙_}
+use mathlib.Core.Path.{_≡_, refl, sym, subst, ap, ap₂, _∙_}
 use mathlib.Core.Bool.{Bool, true, false, _&&_, and-eq-true-iff}
-use mathlib.Core.List.{List, [], _∷_, _++_, flatMap, append-assoc}
-use Prim.Native.Nat.{ℕ, zero, suc, _+_, _*_, _≤_, _<_}
-use native.Mathlib.Nat.{zero-mul, suc-mul, mod-eq-of-lt}
+use mathlib.Core.List.{List, [], _∷_, _++_, flatMap, reverse, append-assoc}
+use Prim.Native.Nat.{ℕ, zero, suc, _+_, _*_, _/_, _%_, _^_, _≤_, _<_}
+use native.Mathlib.Nat.{zero-mul, suc-mul, mod-eq-of-lt, mod-lt, pow-suc, add-zero}
 use native.Mathlib.Omega.{arith}
-use lib.Dec.{eqb, ltb}
+use lib.Arith.{mod-mul, digits-mod, digits-div}
+use lib.Dec.{eqb, ltb, lit<}
 use lib.ListN.{length, take, drop, getD, length-append, length-drop}
-use lib.Seq.{take-at, drop-at, take-add, getD-drop, length-take-le}
+use lib.Seq.{take-at, drop-at, drop-drop, take-add, getD-drop, length-take-le}
 use borrow.Author.Tests.{ltb-true}
-use Rattle.wire.specs.Numbers.{highFirst, numberHigh}
+use Rattle.wire.specs.Numbers.{lowFirst, highFirst, numberHigh}
 use Rattle.wire.specs.Wrote.{Wrote, WroteArray}
 use Rattle.wire.proofs.NumberLaws.{Bytes, length-high, high-number, high-bytes}
 use Rattle.wire.proofs.ReadingLaws.{part-bytes}
 use Rattle.wire.proofs.WroteLaws.{then}
 use Rattle.line.specs.declared.Phase.{Phase}
 use Rattle.line.specs.declared.Phase.the-variants.{Idle, Pending, Associated}
-use Rattle.image.specs.Codec.{Codec, block, byte, number, flag, flagByte, phase, phaseByte, phaseOf, _&_, fields, values, allTaken, Each, none, more, many, Put}
+use Rattle.image.specs.Codec.{Codec, block, byte, number, flag, flagByte, phase, phaseByte, phaseOf, _&_, fields, values, allTaken, Each, none, more, many, Put, Got}
 
 pub record Lawful {A : Type 0} (c : Codec A) : Type 0 where
   pub sized : (x : A) → c .Holds x → length (c .bytes x) ≡ c .size
@@ -56,8 +57,8 @@ number-lawful w =
       back = λ x h rest. ap numberHigh (take-at (highFirst w x) rest w (length-high w x)) ∙ high-number w x ∙ mod-eq-of-lt h;
       passes = λ x h rest. refl;
       again = λ s b h t.
-      let n : length (take w s) ≡ w = length-take-le w s h in
-      rw n at (high-bytes (take w s) (part-bytes s 0 w b));
+          let n : length (take w s) ≡ w = length-take-le w s h in
+          rw n at (high-bytes (take w s) (part-bytes s 0 w b));
     }
 
 flag-back : (x : Bool) → eqb (flagByte x) 1 ≡ x
@@ -108,6 +109,10 @@ phase-lawful =
       passes = λ x h rest. phase-passes x;
       again = λ s b h t. ap (λ (x : ℕ). x ∷ []) (phase-again (getD s 0 0) (ltb-true (getD s 0 0) 3 t)) ∙ first s h;
     }
+
+-- the byte at a place
+pub at-front : (s : List ℕ) (at : ℕ) → getD (drop at s) 0 0 ≡ getD s at 0
+at-front s at = rw (getD-drop at s 0 0, add-zero at)
 
 -- One after the other.
 
@@ -211,6 +216,26 @@ module _ {A : Type 0} {c : Codec A} (p : Lawful c) where
         again = each-again n;
       }
 
+-- A number of eight bytes is written as two of four.
+
+pow-pos : (w : ℕ) → 0 < 256 ^ w
+pow-pos zero = lit< tt
+pow-pos (suc w) = let h = pow-pos w in rw (pow-suc 256 w) (omega arith)
+
+-- what lies above the low w bytes does not show in them
+low-mod : (w n : ℕ) → lowFirst w (n % 256 ^ w) ≡ lowFirst w n
+low-mod zero n = refl
+low-mod (suc w) n =
+    let q = n / 256 % 256 ^ w in
+    let h : n % 256 < 256 = mod-lt n (lit< tt) in
+    let e : n % 256 ^ suc w ≡ q * 256 + n % 256 = ap (λ (k : ℕ). n % k) (pow-suc 256 w) ∙ mod-mul n (pow-pos w) (lit< tt) in
+    ap (lowFirst (suc w)) e
+    ∙ ap₂ (λ (x : ℕ) (xs : List ℕ). x ∷ xs) (digits-mod q h) (ap (lowFirst w) (digits-div q h) ∙ low-mod w (n / 256))
+
+pub halves : (n : ℕ) {l m p : List ℕ} {at k next : ℕ} → Wrote l at m k (highFirst 4 (n / 256 / 256 / 256 / 256)) → Wrote m k p next (highFirst 4 (n % 4294967296)) → Wrote l at p next (highFirst 8 n)
+halves n {m = m} {p = p} {k = k} {next = next} u v =
+    then u (subst (λ (bs : List ℕ). Wrote m k p next bs) (ap reverse (low-mod 4 n)) v)
+
 -- Parts that were written.
 
 module _ {l m : List ℕ} {at next : ℕ} where
@@ -243,3 +268,13 @@ put-both {a = a} {b = b} {x = x} {y = y} p q =
 pub put-fields : {A B : Type 0} {c : Codec A} (to : B → A) (from : A → B) {x : B} {l m : List ℕ} {at next : ℕ} → Put c (to x) l at m next → Put (fields to from c) x l at m next
 unfolding fields
 put-fields to from w = record { wrote = w .wrote; sized = w .sized; holds = w .holds }
+
+-- Parts that were read.
+
+pub got-both : {A B : Type 0} {a : Codec A} {b : Codec B} {s : List ℕ} {at z : ℕ} {x : A} {y : B} → Got a s at x → a .size ≡ z → Got b s (at + z) y → Got (a & b) s at (x, y)
+got-both {A = A} {B = B} {a = a} {b = b} {s = s} {at = at} g e h =
+    record { is = ap₂ (λ (u : A) (v : B). (u, v)) (g .is) (h .is ∙ ap (b .value) (ap (λ (k : ℕ). drop (at + k) s) (sym e) ∙ sym (drop-drop (a .size) at s))) }
+
+pub got-fields : {A B : Type 0} {c : Codec A} (to : B → A) (from : A → B) {s : List ℕ} {at : ℕ} {x : A} → Got c s at x → Got (fields to from c) s at (from x)
+unfolding fields
+got-fields to from g = record { is = ap from (g .is) }

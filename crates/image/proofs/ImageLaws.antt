@@ -5,18 +5,23 @@ use mathlib.Core.List.{List, [], _∷_, append-nil}
 use Prim.Native.Nat.{ℕ, suc, _+_, _≤_}
 use native.Mathlib.Omega.{arith}
 use lib.Dec.{eqb}
-use lib.ListN.{length, take, drop, getD, length-drop}
+use lib.ListN.{length, take, drop, getD, replicate, length-drop}
 use lib.Seq.{take-all}
 use borrow.Author.Tests.{eq-eqb, ne-eqb, eqb-true}
+use Rattle.wire.specs.Wrote.{Wrote}
+use Rattle.wire.proofs.WroteLaws.{then, full}
 use Rattle.wire.proofs.NumberLaws.{Bytes}
 use Rattle.meter.specs.declared.Meter.{Meter}
 use Rattle.image.specs.declared.ImageRead.{ImageRead}
 use Rattle.image.specs.declared.Status.{Status}
 use Rattle.image.specs.declared.Status.the-variants.{Whole, WrongLength, WrongVersion, NoImage}
-use Rattle.image.specs.Codec.{Codec}
+use Rattle.image.specs.declared.Written.{Written}
+use Rattle.image.specs.declared.Written.the-variants.{Done, WrongBuffer}
+use Rattle.image.specs.Codec.{Codec, Put, Got}
 use Rattle.image.specs.Layout.{meterPart}
-use Rattle.image.specs.Image.{version, imageSize, imageOf, meterOf, statusOf, meterBy, readImage}
+use Rattle.image.specs.Image.{version, imageSize, imageOf, meterOf, blankMeter, statusOf, meterBy, readImage, Writes}
 use Rattle.image.proofs.CodecLaws.{rest-bytes}
+use Rattle.image.proofs.Sizes.{sizes}
 use Rattle.image.proofs.LayoutLaws.{meter-lawful}
 
 -- the tests of reading, one by one
@@ -42,6 +47,18 @@ module _ (s : List ℕ) where
 -- what is read, by its status
 pub read-by : (s : List ℕ) (t : Status) → statusOf s ≡ t → record { status = t; meter = meterBy t s } ≡ readImage s
 read-by s t e = ap (λ (u : Status). record { status = u; meter = meterBy u s }) (sym e)
+
+pub blank-is : blankMeter ≡ meterPart .value (replicate 1727 0)
+unfolding blankMeter
+blank-is = ap (λ (n : ℕ). meterPart .value (replicate n 0)) (sizes .meter-size)
+
+pub whole-read : (s : List ℕ) {m : Meter} → statusOf s ≡ Whole → Got meterPart s 1 m → record { status = Whole; meter = m } ≡ readImage s
+unfolding meterOf
+whole-read s e g = ap (λ (x : Meter). record { status = Whole; meter = x }) (g .is) ∙ read-by s Whole e
+
+pub refused-read : (s : List ℕ) (t : Status) {r : ImageRead} → statusOf s ≡ t → meterBy t s ≡ blankMeter → (r .status ≡ t) × (r .meter ≡ blankMeter) → r ≡ readImage s
+refused-read s t e b q =
+    ap₂ (λ (u : Status) (x : Meter). record { status = u; meter = x }) (q .0) (q .1 ∙ sym b) ∙ read-by s t e
 
 -- What was written is read: every meter that the struct can hold comes back.
 module _ (m : Meter) (h : meterPart .Holds m) where
@@ -82,3 +99,23 @@ module _ (s : List ℕ) (k : Bytes s) where
       front : (s : List ℕ) → 1 ≤ length s → getD s 0 0 ∷ drop 1 s ≡ s
       front [] h = absurd (omega arith)
       front (x ∷ xs) h = refl
+
+-- Writing: a buffer of another length is left as it was; in one of its size there is the image.
+
+pub not-written : (m : Meter) (l : List ℕ) → (length l ≡ imageSize → ⊥) → Writes m l l WrongBuffer
+not-written m l h =
+    record {
+      answer = rw (ne-eqb (length l) imageSize h);
+      holds = rw (ne-eqb (length l) imageSize h);
+      back = λ q. absurd (let z : _≡_ {A = ℕ} 0 1 = cc in omega arith);
+    }
+
+pub image-written : (m : Meter) {l p e : List ℕ} {k next : ℕ} → length l ≡ imageSize → Wrote l 0 p k (version ∷ []) → Put meterPart m p k e next → Writes m l e Done
+unfolding imageOf
+image-written m {l} {p} {e} h u w =
+    let i : e ≡ imageOf m = full (then u (w .wrote)) (omega (arith, length-image m (w .holds))) in
+    record {
+      answer = rw (eq-eqb (length l) imageSize h);
+      holds = rw (eq-eqb (length l) imageSize h) i;
+      back = λ q. ap readImage i ∙ image-back m (w .holds);
+    }

@@ -2,7 +2,7 @@
 -- at all. A layout is put together from parts: one after the other, as many of one kind, and the fields of a struct.
 -- Reading is from the front of a byte string; what stands after the part does not matter.
 use mathlib.Core.Path.{_≡_}
-use mathlib.Core.Bool.{Bool, true, false, _&&_}
+use mathlib.Core.Bool.{Bool, true, false, _&&_, cond}
 use mathlib.Core.List.{List, [], _∷_, _++_, flatMap}
 use Prim.Native.Nat.{ℕ, zero, suc, _+_, _*_, _^_, _<_}
 use lib.Dec.{eqb, ltb}
@@ -80,9 +80,7 @@ phaseByte Pending = 1
 phaseByte Associated = 2
 
 abbrev pub phaseOf : ℕ → Phase
-phaseOf zero = Idle
-phaseOf (suc zero) = Pending
-phaseOf (suc (suc n)) = Associated
+phaseOf b = cond (eqb b 0) Idle (cond (eqb b 1) Pending Associated)
 
 -- 0, 1 or 2, and no other byte
 unfoldable pub phase : Codec Phase
@@ -98,7 +96,6 @@ phase =
 -- Parts together.
 
 infixr 60 _&_
-
 -- one, and another right after it
 abbrev pub _&_ : {A B : Type 0} → Codec A → Codec B → Codec (A × B)
 _&_ a b =
@@ -150,3 +147,7 @@ pub record Put {A : Type 0} (c : Codec A) (x : A) (l : List ℕ) (at : ℕ) (m :
   pub wrote : Wrote l at m next (c .bytes x)
   pub sized : length (c .bytes x) ≡ c .size
   pub holds : c .Holds x
+
+-- a part was read at a place
+pub record Got {A : Type 0} (c : Codec A) (s : List ℕ) (at : ℕ) (x : A) : Type 0 where
+  pub is : x ≡ c .value (drop at s)

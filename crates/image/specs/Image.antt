@@ -50,10 +50,10 @@ meterBy NoImage s = blankMeter
 abbrev pub readImage : List ℕ → ImageRead
 readImage s = record { status = statusOf s; meter = meterBy (statusOf s) s }
 
--- Writing.
+-- Writing: into a buffer that held l and holds e then.
 
--- the buffer that held l holds e: the image, which reads as this very meter; or l, where it has another length
+-- the image, where the buffer has its size; else the buffer as it was. What was written reads as this very meter.
 pub record Writes (m : Meter) (l e : List ℕ) (r : Written) : Type 0 where
   pub answer : r ≡ cond (eqb (length l) imageSize) Done WrongBuffer
   pub holds : e ≡ cond (eqb (length l) imageSize) (imageOf m) l
-  pub back : readImage (imageOf m) ≡ record { status = Whole; meter = m }
+  pub back : r ≡ Done → readImage e ≡ record { status = Whole; meter = m }

@@ -1,8 +1,8 @@
 // Whether bytes are taken for a part: its flags are 0 or 1, and its phases at most 2. Any other byte is taken as it is.
+use crate::read::CIPHER_PARTY;
 use crate::read::LINE;
 use crate::read::NAME;
 use crate::read::PARTY;
-use crate::read::CIPHER_PARTY;
 use crate::read::REGISTER;
 ghost use mathlib.Core.Path.{_≡_};
 ghost use Prim.Native.Nat.{_+_, _≤_};

@@ -11,6 +11,7 @@ ghost use Rattle.image.specs.Image.{blankMeter, readImage, Writes};
 
 // How many bytes an image has, and the first of them.
 pub const SIZE: usize = 1728;
+
 pub const VERSION: u8 = 1;
 
 // What writing answers.

@@ -14,26 +14,33 @@ use store::Registers;
 use store::Row;
 use store::Rows;
 use wire::Field;
-ghost use mathlib.Core.Path.{_≡_};
 ghost use Prim.Native.Nat.{_+_, _≤_};
-ghost use lib.ListN.{drop, length, take};
-ghost use Rattle.image.specs.Codec.{byte, flag, many, number, phase};
+ghost use lib.ListN.{length};
+ghost use Rattle.image.specs.Codec.{block, byte, flag, Got, many, number, phase};
 ghost use Rattle.image.specs.Layout.{bodyPart, cipherPartyPart, clockPart, columnsPart, countersPart, linePart, meterPart, namePart, partyPart, registerPart, registersPart, rowPart, rowsPart};
 
 // How many bytes the parts take.
 pub const PARTY: usize = 13;
+
 pub const CIPHER_PARTY: usize = 53;
+
 pub const LINE: usize = 75;
+
 pub const NAME: usize = 6;
+
 pub const CLOCK: usize = 12;
+
 pub const REGISTER: usize = 13;
+
 pub const REGISTERS: usize = 216;
+
 pub const COLUMNS: usize = 104;
+
 pub const ROW: usize = 86;
 
 pub fn meter_at(s: &[u8], at: usize) -> Meter
     requires { ⌜ at + meterPart .size ≤ length (now s) ⌝ }
-    ensures { λ r. ⌜ r ≡ meterPart .value (drop at (now (s .entry))) ⌝ }
+    ensures { λ r. ⌜ Got meterPart (now (s .entry)) at r ⌝ }
 {
     let line = line_at(s, at);
     let body = body_at(s, at + LINE);
@@ -42,7 +49,7 @@ pub fn meter_at(s: &[u8], at: usize) -> Meter
 
 fn line_at(s: &[u8], at: usize) -> LineState
     requires { ⌜ at + linePart .size ≤ length (now s) ⌝ }
-    ensures { λ r. ⌜ r ≡ linePart .value (drop at (now (s .entry))) ⌝ }
+    ensures { λ r. ⌜ Got linePart (now (s .entry)) at r ⌝ }
 {
     let title = eight_bytes(s, at);
     let a = at + 8;
@@ -60,7 +67,7 @@ fn line_at(s: &[u8], at: usize) -> LineState
 
 fn party_at(s: &[u8], at: usize) -> Party
     requires { ⌜ at + partyPart .size ≤ length (now s) ⌝ }
-    ensures { λ r. ⌜ r ≡ partyPart .value (drop at (now (s .entry))) ⌝ }
+    ensures { λ r. ⌜ Got partyPart (now (s .entry)) at r ⌝ }
 {
     let title = eight_bytes(s, at);
     let a = at + 8;
@@ -78,7 +85,7 @@ fn party_at(s: &[u8], at: usize) -> Party
 
 fn cipher_party_at(s: &[u8], at: usize) -> CipherParty
     requires { ⌜ at + cipherPartyPart .size ≤ length (now s) ⌝ }
-    ensures { λ r. ⌜ r ≡ cipherPartyPart .value (drop at (now (s .entry))) ⌝ }
+    ensures { λ r. ⌜ Got cipherPartyPart (now (s .entry)) at r ⌝ }
 {
     let party = party_at(s, at);
     let a = at + PARTY;
@@ -99,7 +106,7 @@ fn cipher_party_at(s: &[u8], at: usize) -> CipherParty
 
 fn counters_at(s: &[u8], at: usize) -> Counters
     requires { ⌜ at + countersPart .size ≤ length (now s) ⌝ }
-    ensures { λ r. ⌜ r ≡ countersPart .value (drop at (now (s .entry))) ⌝ }
+    ensures { λ r. ⌜ Got countersPart (now (s .entry)) at r ⌝ }
 {
     let accepted = four_at(s, at);
     let sent = four_at(s, at + 4);
@@ -108,7 +115,7 @@ fn counters_at(s: &[u8], at: usize) -> Counters
 
 fn body_at(s: &[u8], at: usize) -> BodyState
     requires { ⌜ at + bodyPart .size ≤ length (now s) ⌝ }
-    ensures { λ r. ⌜ r ≡ bodyPart .value (drop at (now (s .entry))) ⌝ }
+    ensures { λ r. ⌜ Got bodyPart (now (s .entry)) at r ⌝ }
 {
     let device = sixteen_bytes(s, at);
     let a = at + 16;
@@ -135,7 +142,7 @@ fn body_at(s: &[u8], at: usize) -> BodyState
 
 fn name_at(s: &[u8], at: usize) -> Name
     requires { ⌜ at + namePart .size ≤ length (now s) ⌝ }
-    ensures { λ r. ⌜ r ≡ namePart .value (drop at (now (s .entry))) ⌝ }
+    ensures { λ r. ⌜ Got namePart (now (s .entry)) at r ⌝ }
 {
     let bytes = six_bytes(s, at);
     Name { bytes }
@@ -143,7 +150,7 @@ fn name_at(s: &[u8], at: usize) -> Name
 
 fn clock_at(s: &[u8], at: usize) -> Clock
     requires { ⌜ at + clockPart .size ≤ length (now s) ⌝ }
-    ensures { λ r. ⌜ r ≡ clockPart .value (drop at (now (s .entry))) ⌝ }
+    ensures { λ r. ⌜ Got clockPart (now (s .entry)) at r ⌝ }
 {
     let bytes = twelve_bytes(s, at);
     Clock { bytes }
@@ -151,7 +158,7 @@ fn clock_at(s: &[u8], at: usize) -> Clock
 
 fn registers_at(s: &[u8], at: usize) -> Registers
     requires { ⌜ at + registersPart .size ≤ length (now s) ⌝ }
-    ensures { λ r. ⌜ r ≡ registersPart .value (drop at (now (s .entry))) ⌝ }
+    ensures { λ r. ⌜ Got registersPart (now (s .entry)) at r ⌝ }
 {
     let count = eight_at(s, at);
     let items = each_register_at(s, at + 8);
@@ -160,7 +167,7 @@ fn registers_at(s: &[u8], at: usize) -> Registers
 
 fn each_register_at(s: &[u8], at: usize) -> [Register; 16]
     requires { ⌜ at + (many 16 registerPart) .size ≤ length (now s) ⌝ }
-    ensures { λ r. ⌜ r ≡ (many 16 registerPart) .value (drop at (now (s .entry))) ⌝ }
+    ensures { λ r. ⌜ Got (many 16 registerPart) (now (s .entry)) at r ⌝ }
 {
     let first = register_at(s, at);
     let mut out = [first; 16];
@@ -177,7 +184,7 @@ fn each_register_at(s: &[u8], at: usize) -> [Register; 16]
 
 fn register_at(s: &[u8], at: usize) -> Register
     requires { ⌜ at + registerPart .size ≤ length (now s) ⌝ }
-    ensures { λ r. ⌜ r ≡ registerPart .value (drop at (now (s .entry))) ⌝ }
+    ensures { λ r. ⌜ Got registerPart (now (s .entry)) at r ⌝ }
 {
     let name = name_at(s, at);
     let a = at + NAME;
@@ -198,7 +205,7 @@ fn register_at(s: &[u8], at: usize) -> Register
 
 fn columns_at(s: &[u8], at: usize) -> Columns
     requires { ⌜ at + columnsPart .size ≤ length (now s) ⌝ }
-    ensures { λ r. ⌜ r ≡ columnsPart .value (drop at (now (s .entry))) ⌝ }
+    ensures { λ r. ⌜ Got columnsPart (now (s .entry)) at r ⌝ }
 {
     let count = eight_at(s, at);
     let items = each_column_at(s, at + 8);
@@ -207,7 +214,7 @@ fn columns_at(s: &[u8], at: usize) -> Columns
 
 fn each_column_at(s: &[u8], at: usize) -> [Name; 16]
     requires { ⌜ at + (many 16 namePart) .size ≤ length (now s) ⌝ }
-    ensures { λ r. ⌜ r ≡ (many 16 namePart) .value (drop at (now (s .entry))) ⌝ }
+    ensures { λ r. ⌜ Got (many 16 namePart) (now (s .entry)) at r ⌝ }
 {
     let first = name_at(s, at);
     let mut out = [first; 16];
@@ -224,7 +231,7 @@ fn each_column_at(s: &[u8], at: usize) -> [Name; 16]
 
 fn rows_at(s: &[u8], at: usize) -> Rows
     requires { ⌜ at + rowsPart .size ≤ length (now s) ⌝ }
-    ensures { λ r. ⌜ r ≡ rowsPart .value (drop at (now (s .entry))) ⌝ }
+    ensures { λ r. ⌜ Got rowsPart (now (s .entry)) at r ⌝ }
 {
     let count = eight_at(s, at);
     let items = each_row_at(s, at + 8);
@@ -233,7 +240,7 @@ fn rows_at(s: &[u8], at: usize) -> Rows
 
 fn each_row_at(s: &[u8], at: usize) -> [Row; 15]
     requires { ⌜ at + (many 15 rowPart) .size ≤ length (now s) ⌝ }
-    ensures { λ r. ⌜ r ≡ (many 15 rowPart) .value (drop at (now (s .entry))) ⌝ }
+    ensures { λ r. ⌜ Got (many 15 rowPart) (now (s .entry)) at r ⌝ }
 {
     let first = row_at(s, at);
     let mut out = [first; 15];
@@ -250,7 +257,7 @@ fn each_row_at(s: &[u8], at: usize) -> [Row; 15]
 
 fn row_at(s: &[u8], at: usize) -> Row
     requires { ⌜ at + rowPart .size ≤ length (now s) ⌝ }
-    ensures { λ r. ⌜ r ≡ rowPart .value (drop at (now (s .entry))) ⌝ }
+    ensures { λ r. ⌜ Got rowPart (now (s .entry)) at r ⌝ }
 {
     let number = two_at(s, at);
     let a = at + 2;
@@ -268,7 +275,7 @@ fn row_at(s: &[u8], at: usize) -> Row
 
 fn cells_at(s: &[u8], at: usize) -> [u32; 16]
     requires { ⌜ at + (many 16 (number 4)) .size ≤ length (now s) ⌝ }
-    ensures { λ r. ⌜ r ≡ (many 16 (number 4)) .value (drop at (now (s .entry))) ⌝ }
+    ensures { λ r. ⌜ Got (many 16 (number 4)) (now (s .entry)) at r ⌝ }
 {
     let mut out = [0u32; 16];
     let mut k = at;
@@ -284,26 +291,28 @@ fn cells_at(s: &[u8], at: usize) -> [u32; 16]
 
 fn flag_at(s: &[u8], at: usize) -> bool
     requires { ⌜ at + flag .size ≤ length (now s) ⌝ }
-    ensures { λ r. ⌜ r ≡ flag .value (drop at (now (s .entry))) ⌝ }
+    ensures { λ r. ⌜ Got flag (now (s .entry)) at r ⌝ }
 {
     s[at] == 1
 }
 
 fn phase_at(s: &[u8], at: usize) -> Phase
     requires { ⌜ at + phase .size ≤ length (now s) ⌝ }
-    ensures { λ r. ⌜ r ≡ phase .value (drop at (now (s .entry))) ⌝ }
+    ensures { λ r. ⌜ Got phase (now (s .entry)) at r ⌝ }
 {
     let b = s[at];
-    match b {
-        0 => Phase::Idle,
-        1 => Phase::Pending,
-        _ => Phase::Associated,
+    if b == 0 {
+        return Phase::Idle;
     }
+    if b == 1 {
+        return Phase::Pending;
+    }
+    Phase::Associated
 }
 
 fn byte_at(s: &[u8], at: usize) -> u8
     requires { ⌜ at + 1 ≤ length (now s) ⌝ }
-    ensures { λ r. ⌜ r ≡ byte .value (drop at (now (s .entry))) ⌝ }
+    ensures { λ r. ⌜ Got byte (now (s .entry)) at r ⌝ }
 {
     s[at]
 }
@@ -311,7 +320,7 @@ fn byte_at(s: &[u8], at: usize) -> u8
 // A number in two, four or eight bytes.
 fn two_at(s: &[u8], at: usize) -> u16
     requires { ⌜ at + 2 ≤ length (now s) ⌝ }
-    ensures { λ r. ⌜ r ≡ (number 2) .value (drop at (now (s .entry))) ⌝ }
+    ensures { λ r. ⌜ Got (number 2) (now (s .entry)) at r ⌝ }
 {
     let Field::Found { value, next: _ } = wire::u16_at(s, at) else {
         return 0;
@@ -321,7 +330,7 @@ fn two_at(s: &[u8], at: usize) -> u16
 
 fn four_at(s: &[u8], at: usize) -> u32
     requires { ⌜ at + 4 ≤ length (now s) ⌝ }
-    ensures { λ r. ⌜ r ≡ (number 4) .value (drop at (now (s .entry))) ⌝ }
+    ensures { λ r. ⌜ Got (number 4) (now (s .entry)) at r ⌝ }
 {
     let Field::Found { value, next: _ } = wire::u32_at(s, at) else {
         return 0;
@@ -331,7 +340,7 @@ fn four_at(s: &[u8], at: usize) -> u32
 
 fn eight_at(s: &[u8], at: usize) -> usize
     requires { ⌜ at + 8 ≤ length (now s) ⌝ }
-    ensures { λ r. ⌜ r ≡ (number 8) .value (drop at (now (s .entry))) ⌝ }
+    ensures { λ r. ⌜ Got (number 8) (now (s .entry)) at r ⌝ }
 {
     let high = four_at(s, at) as usize;
     let low = four_at(s, at + 4) as usize;
@@ -341,7 +350,7 @@ fn eight_at(s: &[u8], at: usize) -> usize
 // The bytes at a place.
 fn three_bytes(s: &[u8], at: usize) -> [u8; 3]
     requires { ⌜ at + 3 ≤ length (now s) ⌝ }
-    ensures { λ r. ⌜ r ≡ take 3 (drop at (now (s .entry))) ⌝ }
+    ensures { λ r. ⌜ Got (block 3) (now (s .entry)) at r ⌝ }
 {
     let mut bytes = [0u8; 3];
     wire::fill_at(s, at, &mut bytes);
@@ -350,7 +359,7 @@ fn three_bytes(s: &[u8], at: usize) -> [u8; 3]
 
 fn six_bytes(s: &[u8], at: usize) -> [u8; 6]
     requires { ⌜ at + 6 ≤ length (now s) ⌝ }
-    ensures { λ r. ⌜ r ≡ take 6 (drop at (now (s .entry))) ⌝ }
+    ensures { λ r. ⌜ Got (block 6) (now (s .entry)) at r ⌝ }
 {
     let mut bytes = [0u8; 6];
     wire::fill_at(s, at, &mut bytes);
@@ -359,7 +368,7 @@ fn six_bytes(s: &[u8], at: usize) -> [u8; 6]
 
 fn eight_bytes(s: &[u8], at: usize) -> [u8; 8]
     requires { ⌜ at + 8 ≤ length (now s) ⌝ }
-    ensures { λ r. ⌜ r ≡ take 8 (drop at (now (s .entry))) ⌝ }
+    ensures { λ r. ⌜ Got (block 8) (now (s .entry)) at r ⌝ }
 {
     let mut bytes = [0u8; 8];
     wire::fill_at(s, at, &mut bytes);
@@ -368,7 +377,7 @@ fn eight_bytes(s: &[u8], at: usize) -> [u8; 8]
 
 fn twelve_bytes(s: &[u8], at: usize) -> [u8; 12]
     requires { ⌜ at + 12 ≤ length (now s) ⌝ }
-    ensures { λ r. ⌜ r ≡ take 12 (drop at (now (s .entry))) ⌝ }
+    ensures { λ r. ⌜ Got (block 12) (now (s .entry)) at r ⌝ }
 {
     let mut bytes = [0u8; 12];
     wire::fill_at(s, at, &mut bytes);
@@ -377,7 +386,7 @@ fn twelve_bytes(s: &[u8], at: usize) -> [u8; 12]
 
 fn sixteen_bytes(s: &[u8], at: usize) -> [u8; 16]
     requires { ⌜ at + 16 ≤ length (now s) ⌝ }
-    ensures { λ r. ⌜ r ≡ take 16 (drop at (now (s .entry))) ⌝ }
+    ensures { λ r. ⌜ Got (block 16) (now (s .entry)) at r ⌝ }
 {
     let mut bytes = [0u8; 16];
     wire::fill_at(s, at, &mut bytes);
