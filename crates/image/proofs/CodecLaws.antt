@@ -1,0 +1,280 @@
+-- What makes a part a codec: what is written is as long as the part says, is read back, and is taken; and what was taken and
+-- read is written back byte for byte. Each way of putting parts together keeps it.
+use mathlib.Core.Path.{_≡_, refl, sym, subst, ap, ap₂, _∙_}
+use mathlib.Core.Bool.{Bool, true, false, _&&_, and-eq-true-iff}
+use mathlib.Core.List.{List, [], _∷_, _++_, flatMap, reverse, append-assoc}
+use Prim.Native.Nat.{ℕ, zero, suc, _+_, _*_, _/_, _%_, _^_, _≤_, _<_}
+use native.Mathlib.Nat.{zero-mul, suc-mul, mod-eq-of-lt, mod-lt, pow-suc, add-zero}
+use native.Mathlib.Omega.{arith}
+use lib.Arith.{mod-mul, digits-mod, digits-div}
+use lib.Dec.{eqb, ltb, lit<}
+use lib.ListN.{length, take, drop, getD, length-append, length-drop}
+use lib.Seq.{take-at, drop-at, drop-drop, take-add, getD-drop, length-take-le}
+use borrow.Author.Tests.{ltb-true}
+use Rattle.wire.specs.Numbers.{lowFirst, highFirst, numberHigh}
+use Rattle.wire.specs.Wrote.{Wrote, WroteArray}
+use Rattle.wire.proofs.NumberLaws.{Bytes, length-high, high-number, high-bytes}
+use Rattle.wire.proofs.ReadingLaws.{part-bytes}
+use Rattle.wire.proofs.WroteLaws.{then}
+use Rattle.line.specs.declared.Phase.{Phase}
+use Rattle.line.specs.declared.Phase.the-variants.{Idle, Pending, Associated}
+use Rattle.image.specs.Codec.{Codec, block, byte, number, flag, flagByte, phase, phaseByte, phaseOf, _&_, fields, values, allTaken, Each, none, more, many, Put, Got}
+
+pub record Lawful {A : Type 0} (c : Codec A) : Type 0 where
+  pub sized : (x : A) → c .Holds x → length (c .bytes x) ≡ c .size
+  pub back : (x : A) → c .Holds x → (rest : List ℕ) → c .value (c .bytes x ++ rest) ≡ x
+  pub passes : (x : A) → c .Holds x → (rest : List ℕ) → c .taken (c .bytes x ++ rest) ≡ true
+  pub again : (s : List ℕ) → Bytes s → c .size ≤ length s → c .taken s ≡ true → c .bytes (c .value s) ≡ take (c .size) s
+
+-- Numbers, flags and bytes.
+
+pub block-lawful : (n : ℕ) → Lawful (block n)
+block-lawful n =
+    record {
+      sized = λ x h. h;
+      back = λ x h rest. take-at x rest n h;
+      passes = λ x h rest. refl;
+      again = λ s b h t. refl;
+    }
+
+first : (s : List ℕ) → 1 ≤ length s → getD s 0 0 ∷ [] ≡ take 1 s
+first [] h = absurd (omega arith)
+first (x ∷ xs) h = refl
+
+pub byte-lawful : Lawful byte
+byte-lawful =
+    record {
+      sized = λ x h. refl;
+      back = λ x h rest. refl;
+      passes = λ x h rest. refl;
+      again = λ s b h t. first s h;
+    }
+
+pub number-lawful : (w : ℕ) → Lawful (number w)
+number-lawful w =
+    record {
+      sized = λ x h. length-high w x;
+      back = λ x h rest. ap numberHigh (take-at (highFirst w x) rest w (length-high w x)) ∙ high-number w x ∙ mod-eq-of-lt h;
+      passes = λ x h rest. refl;
+      again = λ s b h t.
+          let n : length (take w s) ≡ w = length-take-le w s h in
+          rw n at (high-bytes (take w s) (part-bytes s 0 w b));
+    }
+
+flag-back : (x : Bool) → eqb (flagByte x) 1 ≡ x
+flag-back true = refl
+flag-back false = refl
+
+flag-passes : (x : Bool) → ltb (flagByte x) 2 ≡ true
+flag-passes true = refl
+flag-passes false = refl
+
+flag-again : (b : ℕ) → b < 2 → flagByte (eqb b 1) ≡ b
+flag-again zero h = refl
+flag-again (suc zero) h = refl
+flag-again (suc (suc n)) h = absurd (omega arith)
+
+pub flag-lawful : Lawful flag
+unfolding flag
+flag-lawful =
+    record {
+      sized = λ x h. refl;
+      back = λ x h rest. flag-back x;
+      passes = λ x h rest. flag-passes x;
+      again = λ s b h t. ap (λ (x : ℕ). x ∷ []) (flag-again (getD s 0 0) (ltb-true (getD s 0 0) 2 t)) ∙ first s h;
+    }
+
+phase-back : (x : Phase) → phaseOf (phaseByte x) ≡ x
+phase-back Idle = refl
+phase-back Pending = refl
+phase-back Associated = refl
+
+phase-passes : (x : Phase) → ltb (phaseByte x) 3 ≡ true
+phase-passes Idle = refl
+phase-passes Pending = refl
+phase-passes Associated = refl
+
+phase-again : (b : ℕ) → b < 3 → phaseByte (phaseOf b) ≡ b
+phase-again zero h = refl
+phase-again (suc zero) h = refl
+phase-again (suc (suc zero)) h = refl
+phase-again (suc (suc (suc n))) h = absurd (omega arith)
+
+pub phase-lawful : Lawful phase
+unfolding phase
+phase-lawful =
+    record {
+      sized = λ x h. refl;
+      back = λ x h rest. phase-back x;
+      passes = λ x h rest. phase-passes x;
+      again = λ s b h t. ap (λ (x : ℕ). x ∷ []) (phase-again (getD s 0 0) (ltb-true (getD s 0 0) 3 t)) ∙ first s h;
+    }
+
+-- the byte at a place
+pub at-front : (s : List ℕ) (at : ℕ) → getD (drop at s) 0 0 ≡ getD s at 0
+at-front s at = rw (getD-drop at s 0 0, add-zero at)
+
+-- One after the other.
+
+pub rest-bytes : (n : ℕ) (s : List ℕ) → Bytes s → Bytes (drop n s)
+rest-bytes n s b i = rw (getD-drop n s i 0) (b (n + i))
+
+module _ {A B : Type 0} {a : Codec A} {b : Codec B} (p : Lawful a) (q : Lawful b) where
+  module _ (x : A) (y : B) (h : a .Holds x) (k : b .Holds y) (rest : List ℕ) where
+    front : (a .bytes x ++ b .bytes y) ++ rest ≡ a .bytes x ++ (b .bytes y ++ rest)
+    front = append-assoc (a .bytes x) (b .bytes y) rest
+
+    behind : drop (a .size) ((a .bytes x ++ b .bytes y) ++ rest) ≡ b .bytes y ++ rest
+    behind = ap (drop (a .size)) front ∙ drop-at (a .bytes x) (b .bytes y ++ rest) (a .size) (p .sized x h)
+
+    both-back : (a & b) .value ((a .bytes x ++ b .bytes y) ++ rest) ≡ (x, y)
+    both-back =
+        ap₂ (λ (u : A) (v : B). (u, v)) (ap (a .value) front ∙ p .back x h (b .bytes y ++ rest)) (ap (b .value) behind ∙ q .back y k rest)
+
+    both-passes : (a & b) .taken ((a .bytes x ++ b .bytes y) ++ rest) ≡ true
+    both-passes =
+        ap₂ _&&_ (ap (a .taken) front ∙ p .passes x h (b .bytes y ++ rest)) (ap (b .taken) behind ∙ q .passes y k rest)
+
+  both-again : (s : List ℕ) → Bytes s → a .size + b .size ≤ length s → (a .taken s && b .taken (drop (a .size) s)) ≡ true
+      → a .bytes (a .value s) ++ b .bytes (b .value (drop (a .size) s)) ≡ take (a .size + b .size) s
+  both-again s k h t =
+      let e = and-eq-true-iff (a .taken s) (b .taken (drop (a .size) s)) .0 t in
+      ap₂ _++_ (p .again s k (omega arith) (e .0)) (q .again (drop (a .size) s) (rest-bytes (a .size) s k) (rw (length-drop (a .size) s) (omega arith)) (e .1))
+      ∙ sym (take-add (a .size) (b .size) s)
+
+  pub both-lawful : Lawful (a & b)
+  both-lawful =
+      record {
+        sized = λ x h. length-append (a .bytes (x .0)) (b .bytes (x .1)) ∙ ap₂ _+_ (p .sized (x .0) (h .0)) (q .sized (x .1) (h .1));
+        back = λ x h rest. both-back (x .0) (x .1) (h .0) (h .1) rest;
+        passes = λ x h rest. both-passes (x .0) (x .1) (h .0) (h .1) rest;
+        again = both-again;
+      }
+
+-- A struct by its fields.
+
+module _ {A B : Type 0} {c : Codec A} (to : B → A) (from : A → B) (p : Lawful c) where
+  pub fields-lawful : ((x : B) → from (to x) ≡ x) → ((y : A) → to (from y) ≡ y) → Lawful (fields to from c)
+  unfolding fields
+  fields-lawful u v =
+      record {
+        sized = λ x h. p .sized (to x) h;
+        back = λ x h rest. ap from (p .back (to x) h rest) ∙ u x;
+        passes = λ x h rest. p .passes (to x) h rest;
+        again = λ s b h t. ap (c .bytes) (v (c .value s)) ∙ p .again s b h t;
+      }
+
+-- As many of one kind.
+
+module _ {A : Type 0} {c : Codec A} (p : Lawful c) where
+  each-sized : (xs : List A) → Each (c .Holds) xs → length (flatMap (c .bytes) xs) ≡ length xs * c .size
+  unfolding flatMap
+  each-sized [] none = sym (zero-mul (c .size))
+  each-sized (x ∷ xs) (more h k) =
+      let e = p .sized x h in
+      let f = each-sized xs k in
+      omega (arith, length-append (c .bytes x) (flatMap (c .bytes) xs), suc-mul (length xs) (c .size))
+
+  module _ (x : A) (xs : List A) (h : c .Holds x) (rest : List ℕ) where
+    next-front : (c .bytes x ++ flatMap (c .bytes) xs) ++ rest ≡ c .bytes x ++ (flatMap (c .bytes) xs ++ rest)
+    next-front = append-assoc (c .bytes x) (flatMap (c .bytes) xs) rest
+
+    next-behind : drop (c .size) ((c .bytes x ++ flatMap (c .bytes) xs) ++ rest) ≡ flatMap (c .bytes) xs ++ rest
+    next-behind = ap (drop (c .size)) next-front ∙ drop-at (c .bytes x) (flatMap (c .bytes) xs ++ rest) (c .size) (p .sized x h)
+
+  each-back : (xs : List A) → Each (c .Holds) xs → (rest : List ℕ) → values c (length xs) (flatMap (c .bytes) xs ++ rest) ≡ xs
+  unfolding flatMap values
+  each-back [] none rest = refl
+  each-back (x ∷ xs) (more h k) rest =
+      ap₂ _∷_ (ap (c .value) (next-front x xs h rest) ∙ p .back x h (flatMap (c .bytes) xs ++ rest))
+      (ap (values c (length xs)) (next-behind x xs h rest) ∙ each-back xs k rest)
+
+  each-passes : (xs : List A) → Each (c .Holds) xs → (rest : List ℕ) → allTaken c (length xs) (flatMap (c .bytes) xs ++ rest) ≡ true
+  unfolding flatMap allTaken
+  each-passes [] none rest = refl
+  each-passes (x ∷ xs) (more h k) rest =
+      ap₂ _&&_ (ap (c .taken) (next-front x xs h rest) ∙ p .passes x h (flatMap (c .bytes) xs ++ rest))
+      (ap (allTaken c (length xs)) (next-behind x xs h rest) ∙ each-passes xs k rest)
+
+  each-again : (n : ℕ) (s : List ℕ) → Bytes s → n * c .size ≤ length s → allTaken c n s ≡ true → flatMap (c .bytes) (values c n s) ≡ take (n * c .size) s
+  unfolding flatMap values allTaken
+  each-again zero s k h t = rw (zero-mul (c .size))
+  each-again (suc n) s k h t =
+      let z = c .size in
+      let e = and-eq-true-iff (c .taken s) (allTaken c n (drop z s)) .0 t in
+      let j : suc n * z ≡ z + n * z = omega (arith, suc-mul n z) in
+      ap₂ _++_ (p .again s k (omega arith) (e .0)) (each-again n (drop z s) (rest-bytes z s k) (rw (length-drop z s) (omega arith)) (e .1))
+      ∙ sym (take-add z (n * z) s)
+      ∙ ap (λ (i : ℕ). take i s) (sym j)
+
+  pub many-lawful : (n : ℕ) → Lawful (many n c)
+  many-lawful n =
+      record {
+        sized = λ xs h. each-sized xs (h .1) ∙ ap (λ (k : ℕ). k * c .size) (h .0);
+        back = λ xs h rest. ap (λ (k : ℕ). values c k (flatMap (c .bytes) xs ++ rest)) (sym (h .0)) ∙ each-back xs (h .1) rest;
+        passes = λ xs h rest. ap (λ (k : ℕ). allTaken c k (flatMap (c .bytes) xs ++ rest)) (sym (h .0)) ∙ each-passes xs (h .1) rest;
+        again = each-again n;
+      }
+
+-- A number of eight bytes is written as two of four.
+
+pow-pos : (w : ℕ) → 0 < 256 ^ w
+pow-pos zero = lit< tt
+pow-pos (suc w) = let h = pow-pos w in rw (pow-suc 256 w) (omega arith)
+
+-- what lies above the low w bytes does not show in them
+low-mod : (w n : ℕ) → lowFirst w (n % 256 ^ w) ≡ lowFirst w n
+low-mod zero n = refl
+low-mod (suc w) n =
+    let q = n / 256 % 256 ^ w in
+    let h : n % 256 < 256 = mod-lt n (lit< tt) in
+    let e : n % 256 ^ suc w ≡ q * 256 + n % 256 = ap (λ (k : ℕ). n % k) (pow-suc 256 w) ∙ mod-mul n (pow-pos w) (lit< tt) in
+    ap (lowFirst (suc w)) e
+    ∙ ap₂ (λ (x : ℕ) (xs : List ℕ). x ∷ xs) (digits-mod q h) (ap (lowFirst w) (digits-div q h) ∙ low-mod w (n / 256))
+
+pub halves : (n : ℕ) {l m p : List ℕ} {at k next : ℕ} → Wrote l at m k (highFirst 4 (n / 256 / 256 / 256 / 256)) → Wrote m k p next (highFirst 4 (n % 4294967296)) → Wrote l at p next (highFirst 8 n)
+halves n {m = m} {p = p} {k = k} {next = next} u v =
+    then u (subst (λ (bs : List ℕ). Wrote m k p next bs) (ap reverse (low-mod 4 n)) v)
+
+-- Parts that were written.
+
+module _ {l m : List ℕ} {at next : ℕ} where
+  pub put-block : {n : ℕ} {x : List ℕ} → WroteArray n l at m next x → Put (block n) x l at m next
+  put-block w = record { wrote = w .wrote; sized = w .sized; holds = w .sized }
+
+  pub put-byte : {x : ℕ} → Wrote l at m next (x ∷ []) → Put byte x l at m next
+  put-byte w = record { wrote = w; sized = refl; holds = tt }
+
+  pub put-number : (w x : ℕ) → (number w) .Holds x → Wrote l at m next (highFirst w x) → Put (number w) x l at m next
+  put-number w x h u = record { wrote = u; sized = length-high w x; holds = h }
+
+  pub put-flag : (x : Bool) → Wrote l at m next (flagByte x ∷ []) → Put flag x l at m next
+  unfolding flag
+  put-flag x w = record { wrote = w; sized = refl; holds = tt }
+
+  pub put-phase : (x : Phase) → Wrote l at m next (phaseByte x ∷ []) → Put phase x l at m next
+  unfolding phase
+  put-phase x w = record { wrote = w; sized = refl; holds = tt }
+
+pub put-both : {A B : Type 0} {a : Codec A} {b : Codec B} {x : A} {y : B} {l m n : List ℕ} {at k next : ℕ}
+    → Put a x l at m k → Put b y m k n next → Put (a & b) (x, y) l at n next
+put-both {a = a} {b = b} {x = x} {y = y} p q =
+    record {
+      wrote = then (p .wrote) (q .wrote);
+      sized = length-append (a .bytes x) (b .bytes y) ∙ ap₂ _+_ (p .sized) (q .sized);
+      holds = (p .holds, q .holds);
+    }
+
+pub put-fields : {A B : Type 0} {c : Codec A} (to : B → A) (from : A → B) {x : B} {l m : List ℕ} {at next : ℕ} → Put c (to x) l at m next → Put (fields to from c) x l at m next
+unfolding fields
+put-fields to from w = record { wrote = w .wrote; sized = w .sized; holds = w .holds }
+
+-- Parts that were read.
+
+pub got-both : {A B : Type 0} {a : Codec A} {b : Codec B} {s : List ℕ} {at z : ℕ} {x : A} {y : B} → Got a s at x → a .size ≡ z → Got b s (at + z) y → Got (a & b) s at (x, y)
+got-both {A = A} {B = B} {a = a} {b = b} {s = s} {at = at} g e h =
+    record { is = ap₂ (λ (u : A) (v : B). (u, v)) (g .is) (h .is ∙ ap (b .value) (ap (λ (k : ℕ). drop (at + k) s) (sym e) ∙ sym (drop-drop (a .size) at s))) }
+
+pub got-fields : {A B : Type 0} {c : Codec A} (to : B → A) (from : A → B) {s : List ℕ} {at : ℕ} {x : A} → Got c s at x → Got (fields to from c) s at (from x)
+unfolding fields
+got-fields to from g = record { is = ap from (g .is) }

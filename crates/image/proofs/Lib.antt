@@ -1,0 +1,6 @@
+pub mod CodecLaws
+pub mod LoopLaws
+pub mod Sizes
+pub mod LayoutLaws
+pub mod TakenLaws
+pub mod ImageLaws

@@ -1,0 +1,16 @@
+-- `image::read::body_at` meets its contract: its parts, each at its place.
+use mathlib.Core.Path.{refl}
+use native.Mathlib.Omega.{arith}
+use Rattle.image.specs.Layout.{bodyPart}
+use Rattle.image.proofs.CodecLaws.{got-both, got-fields}
+use Rattle.image.proofs.Sizes.{sizes}
+use borrow.Author.Needs.{needs}
+use Rattle.image.proofs.read.body_at.Statement.{statement}
+use Rattle.image.proofs.read.body_at.Tie as tie
+
+returns : tie.Need-returns
+unfolding bodyPart
+returns c = got-fields _ _ (got-both (c .before .before .before .before .before .before .sixteen-bytes .ensures) refl (got-both (c .before .before .before .before .before .clock-at .ensures) (sizes .clock-size) (got-both (c .before .before .before .before .four-at .ensures) refl (got-both (c .before .before .before .two-at .ensures) refl (got-both (c .before .before .registers-at .ensures) (sizes .registers-size) (got-both (c .before .columns-at .ensures) (sizes .columns-size) (c .rows-at .ensures)))))))
+
+pub body-at-spec : {M : Type 1} → statement M
+body-at-spec = tie.close (tie.spec (λ c κs. let z = sizes in omega arith) (λ c. let z = sizes in omega arith) (λ c κs. let z = sizes in omega arith) (λ c. let z = sizes in omega arith) (λ c κs. let z = sizes in omega arith) (λ c. let z = sizes in omega arith) (λ c κs. let z = sizes in omega arith) (λ c. let z = sizes in omega arith) (λ c κs. let z = sizes in omega arith) (λ c. let z = sizes in omega arith) (λ c κs. let z = sizes in omega arith) (λ c. let z = sizes in omega arith) (λ c κs. let z = sizes in omega arith) returns)

@@ -1,0 +1,16 @@
+-- `image::read::columns_at` meets its contract: its parts, each at its place.
+use mathlib.Core.Path.{refl}
+use native.Mathlib.Omega.{arith}
+use Rattle.image.specs.Layout.{columnsPart}
+use Rattle.image.proofs.CodecLaws.{got-both, got-fields}
+use Rattle.image.proofs.Sizes.{sizes}
+use borrow.Author.Needs.{needs}
+use Rattle.image.proofs.read.columns_at.Statement.{statement}
+use Rattle.image.proofs.read.columns_at.Tie as tie
+
+returns : tie.Need-returns
+unfolding columnsPart
+returns c = got-fields _ _ (got-both (c .before .eight-at .ensures) refl (c .each-column-at .ensures))
+
+pub columns-at-spec : {M : Type 1} → statement M
+columns-at-spec = tie.close (tie.spec (λ c κs. let z = sizes in omega arith) (λ c. let z = sizes in omega arith) (λ c κs. let z = sizes in omega arith) returns)

@@ -1,0 +1,13 @@
+-- `image::read::three_bytes` meets its contract.
+use mathlib.Core.Path.{_∙_}
+use lib.ListN.{replicate}
+use Rattle.wire.proofs.ReadingLaws.{fill-here}
+use borrow.Author.Needs.{needs}
+use Rattle.image.proofs.read.three_bytes.Statement.{statement}
+use Rattle.image.proofs.read.three_bytes.Tie as tie
+
+returns : tie.Need-returns
+returns c = let a = c .before .before .before .before .args in record { is = c .before .fill-at .ensures .is ∙ fill-here (a .s .now) (a .at) (replicate 3 0) (search needs) }
+
+pub three-bytes-spec : {M : Type 1} → statement M
+three-bytes-spec = tie.close (tie.spec (λ c. search needs) (λ c κs. search needs) returns)

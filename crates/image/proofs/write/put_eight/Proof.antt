@@ -1,0 +1,12 @@
+-- `image::write::put_eight` meets its contract: its two halves.
+use native.Mathlib.Omega.{arith}
+use Rattle.image.proofs.CodecLaws.{put-number, halves}
+use borrow.Author.Needs.{needs}
+use Rattle.image.proofs.write.put_eight.Statement.{statement}
+use Rattle.image.proofs.write.put_eight.Tie as tie
+
+returns : tie.Need-returns
+returns c = let n = c .before .before .before .before .before .before .before .before .before .args .n in put-number 8 n (omega arith) (halves n (c .before .before .before .before .before .before .put-u32 .ensures) (c .before .before .put-u322 .ensures))
+
+pub put-eight-spec : {M : Type 1} → statement M
+put-eight-spec = tie.close (tie.spec (λ c. search needs) (λ c κs. search needs) (λ c. search needs) (λ c κs. search needs) (λ c. search needs) returns)

@@ -1,0 +1,59 @@
+-- The image of a meter: a version byte, then the meter by its layout; and what writing and reading one promise, for every
+-- buffer and every byte string.
+use mathlib.Core.Path.{_≡_}
+use mathlib.Core.Bool.{Bool, true, false, cond}
+use mathlib.Core.List.{List, _∷_}
+use Prim.Native.Nat.{ℕ, _+_}
+use lib.Dec.{eqb}
+use lib.ListN.{length, drop, getD, replicate}
+use Rattle.meter.specs.declared.Meter.{Meter}
+use Rattle.image.specs.declared.Written.{Written}
+use Rattle.image.specs.declared.Written.the-variants.{Done, WrongBuffer}
+use Rattle.image.specs.declared.Status.{Status}
+use Rattle.image.specs.declared.Status.the-variants.{Whole, WrongLength, WrongVersion, NoImage}
+use Rattle.image.specs.declared.ImageRead.{ImageRead}
+use Rattle.image.specs.Codec.{Codec}
+use Rattle.image.specs.Layout.{meterPart}
+
+-- the version byte of this layout
+abbrev pub version : ℕ
+version = 1
+
+unfoldable pub imageSize : ℕ
+imageSize = 1 + meterPart .size
+
+unfoldable pub imageOf : Meter → List ℕ
+imageOf m = version ∷ meterPart .bytes m
+
+-- the meter that an image holds
+unfoldable pub meterOf : List ℕ → Meter
+meterOf s = meterPart .value (drop 1 s)
+
+-- what is handed back where there is none: the meter whose bytes are all 0
+unfoldable pub blankMeter : Meter
+blankMeter = meterPart .value (replicate (meterPart .size) 0)
+
+-- Reading: tests in this order, a refusal for each.
+
+unfoldable pub statusOf : List ℕ → Status
+statusOf s =
+    cond (eqb (length s) imageSize)
+    (cond (eqb (getD s 0 0) version) (cond (meterPart .taken (drop 1 s)) Whole NoImage) WrongVersion)
+    WrongLength
+
+abbrev pub meterBy : Status → List ℕ → Meter
+meterBy Whole s = meterOf s
+meterBy WrongLength s = blankMeter
+meterBy WrongVersion s = blankMeter
+meterBy NoImage s = blankMeter
+
+abbrev pub readImage : List ℕ → ImageRead
+readImage s = record { status = statusOf s; meter = meterBy (statusOf s) s }
+
+-- Writing: into a buffer that held l and holds e then.
+
+-- the image, where the buffer has its size; else the buffer as it was. What was written reads as this very meter.
+pub record Writes (m : Meter) (l e : List ℕ) (r : Written) : Type 0 where
+  pub answer : r ≡ cond (eqb (length l) imageSize) Done WrongBuffer
+  pub holds : e ≡ cond (eqb (length l) imageSize) (imageOf m) l
+  pub back : r ≡ Done → readImage e ≡ record { status = Whole; meter = m }

@@ -1,0 +1,84 @@
+// Whether bytes are taken for a part: its flags are 0 or 1, and its phases at most 2. Any other byte is taken as it is.
+use crate::read::CIPHER_PARTY;
+use crate::read::LINE;
+use crate::read::NAME;
+use crate::read::PARTY;
+use crate::read::REGISTER;
+ghost use mathlib.Core.Path.{_≡_};
+ghost use Prim.Native.Nat.{_+_, _≤_};
+ghost use lib.ListN.{drop, length};
+ghost use Rattle.image.specs.Codec.{flag, many, phase};
+ghost use Rattle.image.specs.Layout.{bodyPart, linePart, meterPart, partyPart, registerPart};
+
+pub fn meter_taken(s: &[u8], at: usize) -> bool
+    requires { ⌜ at + meterPart .size ≤ length (now s) ⌝ }
+    ensures { λ r. ⌜ r ≡ meterPart .taken (drop at (now (s .entry))) ⌝ }
+{
+    if !line_taken(s, at) {
+        return false;
+    }
+    body_taken(s, at + LINE)
+}
+
+fn line_taken(s: &[u8], at: usize) -> bool
+    requires { ⌜ at + linePart .size ≤ length (now s) ⌝ }
+    ensures { λ r. ⌜ r ≡ linePart .taken (drop at (now (s .entry))) ⌝ }
+{
+    let a = at + 8;
+    if !party_taken(s, a) {
+        return false;
+    }
+    let b = a + PARTY;
+    if !party_taken(s, b) {
+        return false;
+    }
+    flag_taken(s, b + CIPHER_PARTY)
+}
+
+fn party_taken(s: &[u8], at: usize) -> bool
+    requires { ⌜ at + partyPart .size ≤ length (now s) ⌝ }
+    ensures { λ r. ⌜ r ≡ partyPart .taken (drop at (now (s .entry))) ⌝ }
+{
+    let a = at + 8;
+    if !flag_taken(s, a) {
+        return false;
+    }
+    phase_taken(s, a + 1)
+}
+
+fn body_taken(s: &[u8], at: usize) -> bool
+    requires { ⌜ at + bodyPart .size ≤ length (now s) ⌝ }
+    ensures { λ r. ⌜ r ≡ bodyPart .taken (drop at (now (s .entry))) ⌝ }
+{
+    each_register_taken(s, at + 42)
+}
+
+fn each_register_taken(s: &[u8], at: usize) -> bool
+    requires { ⌜ at + (many 16 registerPart) .size ≤ length (now s) ⌝ }
+    ensures { λ r. ⌜ r ≡ (many 16 registerPart) .taken (drop at (now (s .entry))) ⌝ }
+{
+    let mut k = at;
+    let mut i: usize = 0;
+    while i < 16 {
+        if !flag_taken(s, k + NAME) {
+            return false;
+        }
+        k += REGISTER;
+        i += 1;
+    }
+    true
+}
+
+fn flag_taken(s: &[u8], at: usize) -> bool
+    requires { ⌜ at + flag .size ≤ length (now s) ⌝ }
+    ensures { λ r. ⌜ r ≡ flag .taken (drop at (now (s .entry))) ⌝ }
+{
+    s[at] < 2
+}
+
+fn phase_taken(s: &[u8], at: usize) -> bool
+    requires { ⌜ at + phase .size ≤ length (now s) ⌝ }
+    ensures { λ r. ⌜ r ≡ phase .taken (drop at (now (s .entry))) ⌝ }
+{
+    s[at] < 3
+}

@@ -1,0 +1,77 @@
+// The image of a meter: every field of the struct in a fixed byte layout, behind a version byte. Whatever a meter holds is
+// written, sound or not; what is read is refused by its length, its version, or a byte that no meter has. docs/IMAGE.md has
+// the places.
+mod check;
+mod read;
+mod write;
+
+use meter::Meter;
+ghost use mathlib.Core.Path.{_≡_};
+ghost use Rattle.image.specs.Image.{blankMeter, readImage, Writes};
+
+// How many bytes an image has, and the first of them.
+pub const SIZE: usize = 1728;
+
+pub const VERSION: u8 = 1;
+
+// What writing answers.
+pub enum Written {
+    Done,
+    // the buffer has another length than an image, and nothing was written
+    WrongBuffer,
+}
+
+// What reading answers beside the meter, by the first test that the bytes fail.
+pub enum Status {
+    Whole,
+    WrongLength,
+    WrongVersion,
+    // a flag that is neither 0 nor 1, or a phase above 2
+    NoImage,
+}
+
+// What was read: a meter where the image is whole, and else a blank one.
+pub struct ImageRead {
+    pub status: Status,
+    pub meter: Meter,
+}
+
+// Writes the image of a meter into a buffer of its size.
+pub fn write_image(meter: Meter, out: &mut [u8]) -> Written
+    ensures { λ r. ⌜ Writes meter (now (out .entry)) (now (out .exit)) r ⌝ }
+{
+    if out.len() != SIZE {
+        return Written::WrongBuffer;
+    }
+    let a = wire::put(out, 0, VERSION);
+    write::put_meter(out, a, meter);
+    Written::Done
+}
+
+// Reads a meter from its image.
+pub fn read_image(s: &[u8]) -> ImageRead
+    ensures { λ r. ⌜ r ≡ readImage (now (s .entry)) ⌝ }
+{
+    if s.len() != SIZE {
+        return refused(Status::WrongLength);
+    }
+    if s[0] != VERSION {
+        return refused(Status::WrongVersion);
+    }
+    if !check::meter_taken(s, 1) {
+        return refused(Status::NoImage);
+    }
+    let meter = read::meter_at(s, 1);
+    ImageRead {
+        status: Status::Whole,
+        meter,
+    }
+}
+
+fn refused(status: Status) -> ImageRead
+    ensures { λ r. ⌜ (r .status ≡ status) × (r .meter ≡ blankMeter) ⌝ }
+{
+    let zeros = [0u8; 1727];
+    let meter = read::meter_at(&zeros, 0);
+    ImageRead { status, meter }
+}

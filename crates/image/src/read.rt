@@ -1,0 +1,394 @@
+// Readers: each reads a part of an image at a place where there are bytes enough for it.
+use body::BodyState;
+use line::CipherParty;
+use line::LineState;
+use line::Party;
+use line::Phase;
+use meter::Meter;
+use model::Clock;
+use model::Counters;
+use model::Name;
+use model::Register;
+use store::Columns;
+use store::Registers;
+use store::Row;
+use store::Rows;
+use wire::Field;
+ghost use Prim.Native.Nat.{_+_, _≤_};
+ghost use lib.ListN.{length};
+ghost use Rattle.image.specs.Codec.{block, byte, flag, Got, many, number, phase};
+ghost use Rattle.image.specs.Layout.{bodyPart, cipherPartyPart, clockPart, columnsPart, countersPart, linePart, meterPart, namePart, partyPart, registerPart, registersPart, rowPart, rowsPart};
+
+// How many bytes the parts take.
+pub const PARTY: usize = 13;
+
+pub const CIPHER_PARTY: usize = 53;
+
+pub const LINE: usize = 75;
+
+pub const NAME: usize = 6;
+
+pub const CLOCK: usize = 12;
+
+pub const REGISTER: usize = 13;
+
+pub const REGISTERS: usize = 216;
+
+pub const COLUMNS: usize = 104;
+
+pub const ROW: usize = 86;
+
+pub fn meter_at(s: &[u8], at: usize) -> Meter
+    requires { ⌜ at + meterPart .size ≤ length (now s) ⌝ }
+    ensures { λ r. ⌜ Got meterPart (now (s .entry)) at r ⌝ }
+{
+    let line = line_at(s, at);
+    let body = body_at(s, at + LINE);
+    Meter { line, body }
+}
+
+fn line_at(s: &[u8], at: usize) -> LineState
+    requires { ⌜ at + linePart .size ≤ length (now s) ⌝ }
+    ensures { λ r. ⌜ Got linePart (now (s .entry)) at r ⌝ }
+{
+    let title = eight_bytes(s, at);
+    let a = at + 8;
+    let verification = party_at(s, a);
+    let b = a + PARTY;
+    let han = cipher_party_at(s, b);
+    let p5 = flag_at(s, b + CIPHER_PARTY);
+    LineState {
+        title,
+        verification,
+        han,
+        p5,
+    }
+}
+
+fn party_at(s: &[u8], at: usize) -> Party
+    requires { ⌜ at + partyPart .size ≤ length (now s) ⌝ }
+    ensures { λ r. ⌜ Got partyPart (now (s .entry)) at r ⌝ }
+{
+    let title = eight_bytes(s, at);
+    let a = at + 8;
+    let up = flag_at(s, a);
+    let b = a + 1;
+    let phase = phase_at(s, b);
+    let agreed = three_bytes(s, b + 1);
+    Party {
+        title,
+        up,
+        phase,
+        agreed,
+    }
+}
+
+fn cipher_party_at(s: &[u8], at: usize) -> CipherParty
+    requires { ⌜ at + cipherPartyPart .size ≤ length (now s) ⌝ }
+    ensures { λ r. ⌜ Got cipherPartyPart (now (s .entry)) at r ⌝ }
+{
+    let party = party_at(s, at);
+    let a = at + PARTY;
+    let key = sixteen_bytes(s, a);
+    let b = a + 16;
+    let client = eight_bytes(s, b);
+    let c = b + 8;
+    let meter = eight_bytes(s, c);
+    let counters = counters_at(s, c + 8);
+    CipherParty {
+        party,
+        key,
+        client,
+        meter,
+        counters,
+    }
+}
+
+fn counters_at(s: &[u8], at: usize) -> Counters
+    requires { ⌜ at + countersPart .size ≤ length (now s) ⌝ }
+    ensures { λ r. ⌜ Got countersPart (now (s .entry)) at r ⌝ }
+{
+    let accepted = four_at(s, at);
+    let sent = four_at(s, at + 4);
+    Counters { accepted, sent }
+}
+
+fn body_at(s: &[u8], at: usize) -> BodyState
+    requires { ⌜ at + bodyPart .size ≤ length (now s) ⌝ }
+    ensures { λ r. ⌜ Got bodyPart (now (s .entry)) at r ⌝ }
+{
+    let device = sixteen_bytes(s, at);
+    let a = at + 16;
+    let clock = clock_at(s, a);
+    let b = a + CLOCK;
+    let period = four_at(s, b);
+    let c = b + 4;
+    let number = two_at(s, c);
+    let d = c + 2;
+    let registers = registers_at(s, d);
+    let e = d + REGISTERS;
+    let columns = columns_at(s, e);
+    let rows = rows_at(s, e + COLUMNS);
+    BodyState {
+        device,
+        clock,
+        period,
+        number,
+        registers,
+        columns,
+        rows,
+    }
+}
+
+fn name_at(s: &[u8], at: usize) -> Name
+    requires { ⌜ at + namePart .size ≤ length (now s) ⌝ }
+    ensures { λ r. ⌜ Got namePart (now (s .entry)) at r ⌝ }
+{
+    let bytes = six_bytes(s, at);
+    Name { bytes }
+}
+
+fn clock_at(s: &[u8], at: usize) -> Clock
+    requires { ⌜ at + clockPart .size ≤ length (now s) ⌝ }
+    ensures { λ r. ⌜ Got clockPart (now (s .entry)) at r ⌝ }
+{
+    let bytes = twelve_bytes(s, at);
+    Clock { bytes }
+}
+
+fn registers_at(s: &[u8], at: usize) -> Registers
+    requires { ⌜ at + registersPart .size ≤ length (now s) ⌝ }
+    ensures { λ r. ⌜ Got registersPart (now (s .entry)) at r ⌝ }
+{
+    let count = eight_at(s, at);
+    let items = each_register_at(s, at + 8);
+    Registers { count, items }
+}
+
+fn each_register_at(s: &[u8], at: usize) -> [Register; 16]
+    requires { ⌜ at + (many 16 registerPart) .size ≤ length (now s) ⌝ }
+    ensures { λ r. ⌜ Got (many 16 registerPart) (now (s .entry)) at r ⌝ }
+{
+    let first = register_at(s, at);
+    let mut out = [first; 16];
+    let mut k = at;
+    let mut i: usize = 0;
+    while i < 16 {
+        let next = register_at(s, k);
+        out[i] = next;
+        k += REGISTER;
+        i += 1;
+    }
+    out
+}
+
+fn register_at(s: &[u8], at: usize) -> Register
+    requires { ⌜ at + registerPart .size ≤ length (now s) ⌝ }
+    ensures { λ r. ⌜ Got registerPart (now (s .entry)) at r ⌝ }
+{
+    let name = name_at(s, at);
+    let a = at + NAME;
+    let readable = flag_at(s, a);
+    let b = a + 1;
+    let scaler = byte_at(s, b);
+    let c = b + 1;
+    let unit = byte_at(s, c);
+    let value = four_at(s, c + 1);
+    Register {
+        name,
+        readable,
+        scaler,
+        unit,
+        value,
+    }
+}
+
+fn columns_at(s: &[u8], at: usize) -> Columns
+    requires { ⌜ at + columnsPart .size ≤ length (now s) ⌝ }
+    ensures { λ r. ⌜ Got columnsPart (now (s .entry)) at r ⌝ }
+{
+    let count = eight_at(s, at);
+    let items = each_column_at(s, at + 8);
+    Columns { count, items }
+}
+
+fn each_column_at(s: &[u8], at: usize) -> [Name; 16]
+    requires { ⌜ at + (many 16 namePart) .size ≤ length (now s) ⌝ }
+    ensures { λ r. ⌜ Got (many 16 namePart) (now (s .entry)) at r ⌝ }
+{
+    let first = name_at(s, at);
+    let mut out = [first; 16];
+    let mut k = at;
+    let mut i: usize = 0;
+    while i < 16 {
+        let next = name_at(s, k);
+        out[i] = next;
+        k += NAME;
+        i += 1;
+    }
+    out
+}
+
+fn rows_at(s: &[u8], at: usize) -> Rows
+    requires { ⌜ at + rowsPart .size ≤ length (now s) ⌝ }
+    ensures { λ r. ⌜ Got rowsPart (now (s .entry)) at r ⌝ }
+{
+    let count = eight_at(s, at);
+    let items = each_row_at(s, at + 8);
+    Rows { count, items }
+}
+
+fn each_row_at(s: &[u8], at: usize) -> [Row; 15]
+    requires { ⌜ at + (many 15 rowPart) .size ≤ length (now s) ⌝ }
+    ensures { λ r. ⌜ Got (many 15 rowPart) (now (s .entry)) at r ⌝ }
+{
+    let first = row_at(s, at);
+    let mut out = [first; 15];
+    let mut k = at;
+    let mut i: usize = 0;
+    while i < 15 {
+        let next = row_at(s, k);
+        out[i] = next;
+        k += ROW;
+        i += 1;
+    }
+    out
+}
+
+fn row_at(s: &[u8], at: usize) -> Row
+    requires { ⌜ at + rowPart .size ≤ length (now s) ⌝ }
+    ensures { λ r. ⌜ Got rowPart (now (s .entry)) at r ⌝ }
+{
+    let number = two_at(s, at);
+    let a = at + 2;
+    let clock = clock_at(s, a);
+    let b = a + CLOCK;
+    let count = eight_at(s, b);
+    let cells = cells_at(s, b + 8);
+    Row {
+        number,
+        clock,
+        count,
+        cells,
+    }
+}
+
+fn cells_at(s: &[u8], at: usize) -> [u32; 16]
+    requires { ⌜ at + (many 16 (number 4)) .size ≤ length (now s) ⌝ }
+    ensures { λ r. ⌜ Got (many 16 (number 4)) (now (s .entry)) at r ⌝ }
+{
+    let mut out = [0u32; 16];
+    let mut k = at;
+    let mut i: usize = 0;
+    while i < 16 {
+        let next = four_at(s, k);
+        out[i] = next;
+        k += 4;
+        i += 1;
+    }
+    out
+}
+
+fn flag_at(s: &[u8], at: usize) -> bool
+    requires { ⌜ at + flag .size ≤ length (now s) ⌝ }
+    ensures { λ r. ⌜ Got flag (now (s .entry)) at r ⌝ }
+{
+    s[at] == 1
+}
+
+fn phase_at(s: &[u8], at: usize) -> Phase
+    requires { ⌜ at + phase .size ≤ length (now s) ⌝ }
+    ensures { λ r. ⌜ Got phase (now (s .entry)) at r ⌝ }
+{
+    let b = s[at];
+    if b == 0 {
+        return Phase::Idle;
+    }
+    if b == 1 {
+        return Phase::Pending;
+    }
+    Phase::Associated
+}
+
+fn byte_at(s: &[u8], at: usize) -> u8
+    requires { ⌜ at + 1 ≤ length (now s) ⌝ }
+    ensures { λ r. ⌜ Got byte (now (s .entry)) at r ⌝ }
+{
+    s[at]
+}
+
+// A number in two, four or eight bytes.
+fn two_at(s: &[u8], at: usize) -> u16
+    requires { ⌜ at + 2 ≤ length (now s) ⌝ }
+    ensures { λ r. ⌜ Got (number 2) (now (s .entry)) at r ⌝ }
+{
+    let Field::Found { value, next: _ } = wire::u16_at(s, at) else {
+        return 0;
+    };
+    value as u16
+}
+
+fn four_at(s: &[u8], at: usize) -> u32
+    requires { ⌜ at + 4 ≤ length (now s) ⌝ }
+    ensures { λ r. ⌜ Got (number 4) (now (s .entry)) at r ⌝ }
+{
+    let Field::Found { value, next: _ } = wire::u32_at(s, at) else {
+        return 0;
+    };
+    value
+}
+
+fn eight_at(s: &[u8], at: usize) -> usize
+    requires { ⌜ at + 8 ≤ length (now s) ⌝ }
+    ensures { λ r. ⌜ Got (number 8) (now (s .entry)) at r ⌝ }
+{
+    let high = four_at(s, at) as usize;
+    let low = four_at(s, at + 4) as usize;
+    high * 4294967296 + low
+}
+
+// The bytes at a place.
+fn three_bytes(s: &[u8], at: usize) -> [u8; 3]
+    requires { ⌜ at + 3 ≤ length (now s) ⌝ }
+    ensures { λ r. ⌜ Got (block 3) (now (s .entry)) at r ⌝ }
+{
+    let mut bytes = [0u8; 3];
+    wire::fill_at(s, at, &mut bytes);
+    bytes
+}
+
+fn six_bytes(s: &[u8], at: usize) -> [u8; 6]
+    requires { ⌜ at + 6 ≤ length (now s) ⌝ }
+    ensures { λ r. ⌜ Got (block 6) (now (s .entry)) at r ⌝ }
+{
+    let mut bytes = [0u8; 6];
+    wire::fill_at(s, at, &mut bytes);
+    bytes
+}
+
+fn eight_bytes(s: &[u8], at: usize) -> [u8; 8]
+    requires { ⌜ at + 8 ≤ length (now s) ⌝ }
+    ensures { λ r. ⌜ Got (block 8) (now (s .entry)) at r ⌝ }
+{
+    let mut bytes = [0u8; 8];
+    wire::fill_at(s, at, &mut bytes);
+    bytes
+}
+
+fn twelve_bytes(s: &[u8], at: usize) -> [u8; 12]
+    requires { ⌜ at + 12 ≤ length (now s) ⌝ }
+    ensures { λ r. ⌜ Got (block 12) (now (s .entry)) at r ⌝ }
+{
+    let mut bytes = [0u8; 12];
+    wire::fill_at(s, at, &mut bytes);
+    bytes
+}
+
+fn sixteen_bytes(s: &[u8], at: usize) -> [u8; 16]
+    requires { ⌜ at + 16 ≤ length (now s) ⌝ }
+    ensures { λ r. ⌜ Got (block 16) (now (s .entry)) at r ⌝ }
+{
+    let mut bytes = [0u8; 16];
+    wire::fill_at(s, at, &mut bytes);
+    bytes
+}
