@@ -1,20 +1,20 @@
 // Plain APDUs of the COSEM services: tags, GET and ACTION requests read, release, exceptions. Readers answer for every slice;
 // names and values stay in the APDU and are read at their places. specs/ says what each means; proofs/ has the laws for callers.
-mod association;
 mod request;
 mod shapes;
+mod tags;
 
-pub use association::is_release;
-pub use association::put_exception;
-pub use association::put_release;
-pub use association::tag_in;
-pub use association::tag_of;
 pub use request::name_in;
 pub use request::read_action;
 pub use request::read_get;
 pub use shapes::entries_at;
 pub use shapes::is_integer_at;
 pub use shapes::rest_of;
+pub use tags::is_release;
+pub use tags::put_exception;
+pub use tags::put_release;
+pub use tags::tag_in;
+pub use tags::tag_of;
 
 // The tags of the APDUs that a client may send.
 pub enum Tag {

@@ -33,8 +33,3 @@ done s i c h = rw (drop-of-length-le s h)
 pub check-fits : (s : List ℕ) → checkOf s ≤ 0xFFFF
 unfolding checkOf
 check-fits s = omega arith
-
--- "123456789"
-pub marked : checkOf (0x31 ∷ 0x32 ∷ 0x33 ∷ 0x34 ∷ 0x35 ∷ 0x36 ∷ 0x37 ∷ 0x38 ∷ 0x39 ∷ []) ≡ 0x906E
-unfolding checkOf checkFrom checkByte polynomial steps step
-marked = refl

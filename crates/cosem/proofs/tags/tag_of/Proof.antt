@@ -1,8 +1,8 @@
--- `cosem::association::tag_of` meets its contract: an arm for each tag.
+-- `cosem::tags::tag_of` meets its contract: an arm for each tag.
 use borrow.Author.Tests.{ne-eqb}
 use Rattle.cosem.specs.Tags.{tagOf}
-use Rattle.cosem.proofs.association.tag_of.Statement.{statement}
-use Rattle.cosem.proofs.association.tag_of.Tie as tie
+use Rattle.cosem.proofs.tags.tag_of.Statement.{statement}
+use Rattle.cosem.proofs.tags.tag_of.Tie as tie
 
 -- the byte is none of them
 other : tie.Need-returns-10

@@ -1,7 +1,7 @@
--- `cosem::association::put_exception` meets its contract.
+-- `cosem::tags::put_exception` meets its contract.
 use borrow.Author.Needs.{needs}
-use Rattle.cosem.proofs.association.put_exception.Statement.{statement}
-use Rattle.cosem.proofs.association.put_exception.Tie as tie
+use Rattle.cosem.proofs.tags.put_exception.Statement.{statement}
+use Rattle.cosem.proofs.tags.put_exception.Tie as tie
 
 returns : tie.Need-returns
 returns c =

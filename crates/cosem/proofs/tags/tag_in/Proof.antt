@@ -1,11 +1,11 @@
--- `cosem::association::tag_in` meets its contract.
+-- `cosem::tags::tag_in` meets its contract.
 use mathlib.Core.Path.{sym, _∙_}
 use native.Mathlib.Omega.{arith}
 use borrow.Author.Needs.{needs}
 use Rattle.wire.proofs.ReadingLaws.{number-read, number-small}
 use Rattle.cosem.specs.Tags.{tagIn}
-use Rattle.cosem.proofs.association.tag_in.Statement.{statement}
-use Rattle.cosem.proofs.association.tag_in.Tie as tie
+use Rattle.cosem.proofs.tags.tag_in.Statement.{statement}
+use Rattle.cosem.proofs.tags.tag_in.Tie as tie
 
 pub tag-in-spec : {M : Type 1} → statement M
 unfolding tagIn
