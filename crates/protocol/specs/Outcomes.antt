@@ -1,10 +1,12 @@
 -- Document 01's table "What goes out", for frame calls: its rows, and its cells one by one, of every meter, sound or not, and
--- whatever is lent. Proved in proofs/Outcomes and proofs/Framed.
+-- whatever is lent. `Answers` alone asks something of the meter: that its own title, which an AARE holds, has its 8 bytes; a
+-- longer one would not fit the frame. Proved in proofs/Outcomes and proofs/Framed.
 use mathlib.Core.Path.{_≡_}
 use mathlib.Core.Bool.{true}
 use mathlib.Core.List.{List, [], _∷_}
-use Prim.Native.Nat.{ℕ, _≤_}
+use Prim.Native.Nat.{ℕ, _-_, _≤_}
 use lib.ListN.{length, take}
+use Rattle.wire.specs.Reading.{part}
 use Rattle.model.specs.declared.Client.{Client}
 use Rattle.model.specs.declared.Client.the-variants.{Verification, Han}
 use Rattle.model.specs.Limits.{longestSent, replyRoom}
@@ -34,6 +36,10 @@ outcome a m = step p2 (frame a) m
 -- the received frame's address bytes and control
 abbrev pub headIn : Lent → Head
 headIn a = headOf (a .received)
+
+-- the APDU that a frame carries: what stands after LLC and before the FCS
+abbrev pub apduOf : List ℕ → List ℕ
+apduOf f = part 11 (length f - 3) f
 
 -- its source is the address of this client
 abbrev pub SentBy : Client → Lent → Type 0
