@@ -177,13 +177,13 @@ module _ (a : Lent) (m : Model) (title : length (m .line .title) ≡ 8) (challen
   unfolding disproved
   framed-ruled odd (by.unheard t h) e = absurd (unheard-number (frame-number t) h e)
   framed-ruled odd by.unopened e = absurd (false≢true e)
-  framed-ruled odd (by.drops from) e = absurd (false≢true e)
+  framed-ruled odd (by.drops from o w) e = absurd (false≢true e)
   framed-ruled odd (by.rejects t h) e = framed-reply f odd frmr (headOf f .control ∷ 0x00 ∷ rejectCode t ∷ []) three-fit
   framed-ruled odd (by.noLink t n) e = framed-reply f odd dm [] (omega arith)
   framed-ruled odd (by.departs c from) e = framed-apdu f odd (rejectedAare c) (omega (arith, apdu-room, length-rejected c))
   framed-ruled odd (by.excepts t x n) e = framed-apdu f odd (exceptionBytes x) (length-exception x)
-  framed-ruled odd (by.exceptsInside t x counter n from w) e = framed-apdu f odd (exceptionBytes x) (length-exception x)
-  framed-ruled odd (by.disproves invoke counter from w) e =
+  framed-ruled odd (by.exceptsInside t x counter n from o w) e = framed-apdu f odd (exceptionBytes x) (length-exception x)
+  framed-ruled odd (by.disproves invoke counter from o w) e =
       let number = taken (accepting (l .han .counters) counter) .number in
       let text = actionAnswer invoke (denied 250) in
       framed-apdu f odd (sealedEnvelope (lentKeys (secretsOf a)) (l .title) 0xCF number text)
@@ -192,7 +192,7 @@ module _ (a : Lent) (m : Model) (title : length (m .line .title) ≡ 8) (challen
   framed-ruled odd (by.tells bs after fits) e = framed-apdu f odd bs (fits title challenge)
   framed-ruled odd (by.serves s q from) e =
       framed-plain f odd l (a .ak) _ (turned-fits (requested Verification (selectiveIn Verification l) s q) (m .body))
-  framed-ruled odd (by.servesInside tag s q counter k from w) e =
+  framed-ruled odd (by.servesInside tag s q counter k from o w) e =
       framed-inside f odd (advanced (accepted counter l)) (a .ak) _ k (turned-fits (requested Han (selectiveIn Han l) s q) (m .body))
 
   framed-heard : (x : Frame) → Told f x → Sends (decided p2 (decision (heard l (secretsOf a) f x)) m)

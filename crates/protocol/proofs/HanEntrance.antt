@@ -310,9 +310,8 @@ module _ (m : Model) (e : Entrance) (link aarq proof : Lent) (s : sound m ≡ tr
       let third = ap (λ (o : Outcome). outcome proof (o .next)) second ∙ proof-outcome in
       record {
         first = first;
-        second = ap (λ (o : Outcome). o .refusal) second;
-        third = ap (λ (o : Outcome). o .refusal) third;
-        after = ap (λ (o : Outcome). o .next) third;
+        second = second;
+        third = third;
       }
 
 pub han-let-in : HanLetIn

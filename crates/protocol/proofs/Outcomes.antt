@@ -12,7 +12,7 @@ use Rattle.model.specs.declared.Client.the-variants.{Verification, Han}
 use Rattle.model.specs.Limits.{longestSent, replyRoom}
 use Rattle.model.specs.Names.{every}
 use Rattle.model.specs.Periods.{listed}
-use Rattle.model.specs.State.{none, Model, withLine}
+use Rattle.model.specs.State.{Model}
 use Rattle.model.specs.Soundness.{sound}
 use Rattle.model.specs.Objects.{Request, turned}
 use Rattle.model.specs.Calls.{Lent, lentRefusal, frame as frameCall, Outcome, refused, serve, decided, act, step}
@@ -28,9 +28,9 @@ use Rattle.cosem.specs.Requests.{requested}
 use Rattle.counters.specs.Advance.{taken}
 use Rattle.counters.specs.Window.{accepting}
 use Rattle.protocol.specs.Rulings.{Ruling, decision}
-use Rattle.protocol.specs.Clients.{associates, withCounters, selectiveIn}
+use Rattle.protocol.specs.Clients.{selectiveIn}
 use Rattle.protocol.specs.Decide.{wrap, accepted, advanced, disproved, around, seal, secretsOf, ruled, decide, p2}
-use Rattle.protocol.specs.Outcomes.{outcome, headIn, SentBy, said, Enclosed, get, action, Accepted, Row, refuses, drops, overLength, badFrame, noLink, notAccepted, exception, exceptionInside, denial, denialInside, wrongProof, links, tells, grants, grantsInside, RowsHold, FrameNumbers, Silent, Unchanged, Dropped, LastAccepted, PlainUnchanged, Advanced, counters, association, DeniedBody, DeniedLine}
+use Rattle.protocol.specs.Outcomes.{outcome, headIn, SentBy, said, Enclosed, get, action, Accepted, Brings, Row, refuses, drops, overLength, badFrame, noLink, notAccepted, exception, exceptionInside, denial, denialInside, wrongProof, links, tells, grants, grantsInside, RowsHold, FrameNumbers, Silent, Unchanged, Dropping, Dropped, Excepting, plain, inside, LastAccepted, PlainUnchanged, Advanced, counters, association, DeniedBody, DeniedLine}
 use Rattle.protocol.proofs.Claim.{p2-numbers-allowed}
 use Rattle.protocol.proofs.Ruled as by
 use Rattle.protocol.proofs.Turns as by-turn
@@ -95,33 +95,33 @@ module _ (a : Lent) (m : Model) where
   row-served q c from (by-turn.grants e) = rw e (grants q from c)
   row-served q c from (by-turn.denies e b d) = rw (e, b) (denial from d)
 
-  row-inside : {tag : ℕ} (q : Request) (n : ℕ) → q .client ≡ Han → Enclosed tag → SentBy Han a → Accepted n (m .line) → by-turn.Turning (m .body) (turned q (m .body))
+  row-inside : {tag : ℕ} {asked : List ℕ} (q : Request) (n : ℕ) → q .client ≡ Han → Enclosed tag → SentBy Han a → Brings a (m .line) tag n asked → Accepted n (m .line) → by-turn.Turning (m .body) (turned q (m .body))
       → Row a m (decided p2 (serve q (wrap (a .ak) (headIn a) tag) (advanced (accepted n (m .line)))) m)
   unfolding seal around taken accepting
-  row-inside q n c get from w (by-turn.grants e) = rw e (grantsInside q n from get w c)
-  row-inside q n c action from w (by-turn.grants e) = rw e (grantsInside q n from action w c)
-  row-inside q n c get from w (by-turn.denies e b d) = rw (e, b) (denialInside n from get w d)
-  row-inside q n c action from w (by-turn.denies e b d) = rw (e, b) (denialInside n from action w d)
+  row-inside q n c get from o w (by-turn.grants e) = rw e (grantsInside q from get o w c)
+  row-inside q n c action from o w (by-turn.grants e) = rw e (grantsInside q from action o w c)
+  row-inside q n c get from o w (by-turn.denies e b d) = rw (e, b) (denialInside from get o w d)
+  row-inside q n c action from o w (by-turn.denies e b d) = rw (e, b) (denialInside from action o w d)
 
   row-ruled : {r : Ruling} → by.Ruled (m .line) (secretsOf a) (a .received) r → Row a m (decided p2 (decision r) m)
   unfolding disproved taken accepting requested
   row-ruled (by.unheard t h) = row-unheard (frame-number t) h
   row-ruled by.unopened = refuses 6 refl
-  row-ruled (by.drops from) = drops (sent-by Han from)
+  row-ruled (by.drops from o w) = drops (sent-by Han from) o w
   row-ruled (by.rejects t h) = row-rejected (frame-number t) h
   row-ruled (by.noLink t e) = rw e noLink
   row-ruled (by.departs c from) = notAccepted c (sent-by c from)
   row-ruled (by.excepts t e n) = rw n (exception e)
-  row-ruled (by.exceptsInside t e counter n from w) = rw n (exceptionInside e counter (sent-by Han from) w)
-  row-ruled (by.disproves invoke counter from w) = wrongProof invoke counter (sent-by Han from) w
+  row-ruled (by.exceptsInside t e counter n from o w) = rw n (exceptionInside e (sent-by Han from) o w)
+  row-ruled (by.disproves invoke counter from o w) = wrongProof invoke (sent-by Han from) o w
   row-ruled (by.links after) = links after
   row-ruled (by.tells bs after f) = tells bs after
   row-ruled (by.serves s q from) =
       let r = requested Verification (selectiveIn Verification (m .line)) s q in
       row-served r refl (sent-by Verification from) (by-turn.turning r (m .body))
-  row-ruled (by.servesInside tag s q counter k from w) =
+  row-ruled (by.servesInside tag s q counter k from o w) =
       let r = requested Han (selectiveIn Han (m .line)) s q in
-      row-inside r counter refl k (sent-by Han from) w (by-turn.turning r (m .body))
+      row-inside r counter refl k (sent-by Han from) o w (by-turn.turning r (m .body))
 
   -- refusals 1 and 2, and then 3, come before the frame
   pub row-lent : (P : Outcome → Type 0) → P (refused 1 m) → P (refused 2 m) → P (refused 3 m) → (lentRefusal a ≡ 0 → sound m ≡ true → P (decided p2 (decision (ruled (m .line) a)) m)) → P (outcome a m)
@@ -164,72 +164,71 @@ early n e h = omega (arith, listed-most 6 n (1 ∷ 2 ∷ 3 ∷ 4 ∷ 5 ∷ 6 ∷
 module _ (a : Lent) (m : Model) where
   silent-row : {o : Outcome} → Row a m o → listed (o .refusal) (1 ∷ 2 ∷ 3 ∷ 4 ∷ 5 ∷ 6 ∷ 7 ∷ []) ≡ true → o .sent ≡ []
   silent-row (refuses n k) e = refl
-  silent-row (drops from) e = refl
+  silent-row (drops from o w) e = refl
   silent-row overLength e = absurd (false≢true e)
   silent-row badFrame e = absurd (false≢true e)
   silent-row noLink e = absurd (false≢true e)
   silent-row (notAccepted c from) e = absurd (false≢true e)
   silent-row (exception x) e = absurd (false≢true e)
-  silent-row (exceptionInside x n from w) e = absurd (false≢true e)
+  silent-row (exceptionInside x from o w) e = absurd (false≢true e)
   silent-row (denial from d) e = absurd (false≢true e)
-  silent-row (denialInside n from k w d) e = absurd (false≢true e)
-  silent-row (wrongProof invoke n from w) e = absurd (false≢true e)
+  silent-row (denialInside from k o w d) e = absurd (false≢true e)
+  silent-row (wrongProof invoke from o w) e = absurd (false≢true e)
   silent-row (links after) e = absurd (false≢true e)
   silent-row (tells bs after) e = absurd (false≢true e)
   silent-row (grants q from c) e = absurd (false≢true e)
-  silent-row (grantsInside q n from k w c) e = absurd (false≢true e)
+  silent-row (grantsInside q from k o w c) e = absurd (false≢true e)
 
   unchanged-row : {o : Outcome} → Row a m o → listed (o .refusal) (1 ∷ 2 ∷ 3 ∷ 4 ∷ 5 ∷ 6 ∷ 8 ∷ 9 ∷ 10 ∷ 11 ∷ []) ≡ true → o .next ≡ m
   unchanged-row (refuses n k) e = refl
-  unchanged-row (drops from) e = absurd (false≢true e)
+  unchanged-row (drops from o w) e = absurd (false≢true e)
   unchanged-row overLength e = refl
   unchanged-row badFrame e = refl
   unchanged-row noLink e = refl
   unchanged-row (notAccepted c from) e = refl
   unchanged-row (exception x) e = refl
-  unchanged-row (exceptionInside x n from w) e = absurd (false≢true e)
+  unchanged-row (exceptionInside x from o w) e = absurd (false≢true e)
   unchanged-row (denial from d) e = refl
-  unchanged-row (denialInside n from k w d) e = absurd (false≢true e)
-  unchanged-row (wrongProof invoke n from w) e = absurd (false≢true e)
+  unchanged-row (denialInside from k o w d) e = absurd (false≢true e)
+  unchanged-row (wrongProof invoke from o w) e = absurd (false≢true e)
   unchanged-row (links after) e = absurd (false≢true e)
   unchanged-row (tells bs after) e = absurd (false≢true e)
   unchanged-row (grants q from c) e = absurd (false≢true e)
-  unchanged-row (grantsInside q n from k w c) e = absurd (false≢true e)
+  unchanged-row (grantsInside q from k o w c) e = absurd (false≢true e)
 
-  dropped-row : {o : Outcome} → Row a m o → o .refusal ≡ 7 → o .next ≡ withLine (associates Han none (m .line)) m
+  dropped-row : {o : Outcome} → Row a m o → o .refusal ≡ 7 → Dropping a m (o .next)
   dropped-row (refuses n k) e = absurd (early n k (omega arith))
-  dropped-row (drops from) e = refl
+  dropped-row (drops {tag} {n} {asked} from o w) e = record { tag = tag; counter = n; text = asked; sender = from; envelope = o; outside = w; drops = refl }
   dropped-row overLength e = absurd (omega arith)
   dropped-row badFrame e = absurd (omega arith)
   dropped-row noLink e = absurd (omega arith)
   dropped-row (notAccepted c from) e = absurd (omega arith)
   dropped-row (exception x) e = absurd (omega arith)
-  dropped-row (exceptionInside x n from w) e = absurd (omega arith)
+  dropped-row (exceptionInside x from o w) e = absurd (omega arith)
   dropped-row (denial from d) e = absurd (omega arith)
-  dropped-row (denialInside n from k w d) e = absurd (omega arith)
-  dropped-row (wrongProof invoke n from w) e = absurd (omega arith)
+  dropped-row (denialInside from k o w d) e = absurd (omega arith)
+  dropped-row (wrongProof invoke from o w) e = absurd (omega arith)
   dropped-row (links after) e = absurd (omega arith)
   dropped-row (tells bs after) e = absurd (omega arith)
   dropped-row (grants q from c) e = absurd (omega arith)
-  dropped-row (grantsInside q n from k w c) e = absurd (omega arith)
+  dropped-row (grantsInside q from k o w c) e = absurd (omega arith)
 
-  accepted-row : {o : Outcome} → Row a m o → o .refusal ≡ 12 → o .next ≡ withLine (withCounters (accepting (m .line .han .counters) (o .next .line .han .counters .accepted)) (m .line)) m
-  unfolding accepting
+  accepted-row : {o : Outcome} → Row a m o → o .refusal ≡ 12 → Excepting a m (o .next)
   accepted-row (refuses n k) e = absurd (early n k (omega arith))
-  accepted-row (drops from) e = absurd (omega arith)
+  accepted-row (drops from o w) e = absurd (omega arith)
   accepted-row overLength e = absurd (omega arith)
   accepted-row badFrame e = absurd (omega arith)
   accepted-row noLink e = absurd (omega arith)
   accepted-row (notAccepted c from) e = absurd (omega arith)
-  accepted-row (exception x) e = refl
-  accepted-row (exceptionInside x n from w) e = refl
+  accepted-row (exception x) e = plain
+  accepted-row (exceptionInside x from o w) e = inside from o w
   accepted-row (denial from d) e = absurd (omega arith)
-  accepted-row (denialInside n from k w d) e = absurd (omega arith)
-  accepted-row (wrongProof invoke n from w) e = absurd (omega arith)
+  accepted-row (denialInside from k o w d) e = absurd (omega arith)
+  accepted-row (wrongProof invoke from o w) e = absurd (omega arith)
   accepted-row (links after) e = absurd (omega arith)
   accepted-row (tells bs after) e = absurd (omega arith)
   accepted-row (grants q from c) e = absurd (omega arith)
-  accepted-row (grantsInside q n from k w c) e = absurd (omega arith)
+  accepted-row (grantsInside q from k o w c) e = absurd (omega arith)
 
   -- a frame has one sender
   one-sender : {A : Type 0} → SentBy Verification a → SentBy Han a → A
@@ -237,54 +236,54 @@ module _ (a : Lent) (m : Model) where
 
   plain-row : {o : Outcome} → Row a m o → SentBy Verification a → listed (o .refusal) (12 ∷ 13 ∷ []) ≡ true → o .next ≡ m
   plain-row (refuses n k) v e = refl
-  plain-row (drops from) v e = absurd (false≢true e)
+  plain-row (drops from o w) v e = absurd (false≢true e)
   plain-row overLength v e = refl
   plain-row badFrame v e = refl
   plain-row noLink v e = refl
   plain-row (notAccepted c from) v e = refl
   plain-row (exception x) v e = refl
-  plain-row (exceptionInside x n from w) v e = one-sender v from
+  plain-row (exceptionInside x from o w) v e = one-sender v from
   plain-row (denial from d) v e = refl
-  plain-row (denialInside n from k w d) v e = one-sender v from
-  plain-row (wrongProof invoke n from w) v e = one-sender v from
+  plain-row (denialInside from k o w d) v e = one-sender v from
+  plain-row (wrongProof invoke from o w) v e = one-sender v from
   plain-row (links after) v e = absurd (false≢true e)
   plain-row (tells bs after) v e = absurd (false≢true e)
   plain-row (grants q from c) v e = absurd (false≢true e)
-  plain-row (grantsInside q n from k w c) v e = absurd (false≢true e)
+  plain-row (grantsInside q from k o w c) v e = absurd (false≢true e)
 
   denied-row : {o : Outcome} → Row a m o → o .refusal ≡ 13 → o .next .body ≡ m .body
   denied-row (refuses n k) e = refl
-  denied-row (drops from) e = refl
+  denied-row (drops from o w) e = refl
   denied-row overLength e = refl
   denied-row badFrame e = refl
   denied-row noLink e = refl
   denied-row (notAccepted c from) e = refl
   denied-row (exception x) e = refl
-  denied-row (exceptionInside x n from w) e = refl
+  denied-row (exceptionInside x from o w) e = refl
   denied-row (denial from d) e = refl
-  denied-row (denialInside n from k w d) e = refl
-  denied-row (wrongProof invoke n from w) e = refl
+  denied-row (denialInside from k o w d) e = refl
+  denied-row (wrongProof invoke from o w) e = refl
   denied-row (links after) e = absurd (omega arith)
   denied-row (tells bs after) e = absurd (omega arith)
   denied-row (grants q from c) e = absurd (omega arith)
-  denied-row (grantsInside q n from k w c) e = absurd (omega arith)
+  denied-row (grantsInside q from k o w c) e = absurd (omega arith)
 
-  advanced-row : {o : Outcome} → Row a m o → SentBy Han a → o .refusal ≡ 13 → Advanced (m .line) (o .next .line)
+  advanced-row : {o : Outcome} → Row a m o → SentBy Han a → o .refusal ≡ 13 → Advanced a (m .line) (o .next .line)
   advanced-row (refuses n k) h e = absurd (early n k (omega arith))
-  advanced-row (drops from) h e = absurd (omega arith)
+  advanced-row (drops from o w) h e = absurd (omega arith)
   advanced-row overLength h e = absurd (omega arith)
   advanced-row badFrame h e = absurd (omega arith)
   advanced-row noLink h e = absurd (omega arith)
   advanced-row (notAccepted c from) h e = absurd (omega arith)
   advanced-row (exception x) h e = absurd (omega arith)
-  advanced-row (exceptionInside x n from w) h e = absurd (omega arith)
+  advanced-row (exceptionInside x from o w) h e = absurd (omega arith)
   advanced-row (denial from d) h e = one-sender from h
-  advanced-row (denialInside n from k w d) h e = counters n w
-  advanced-row (wrongProof invoke n from w) h e = association n w
+  advanced-row (denialInside from k o w d) h e = counters k o w
+  advanced-row (wrongProof invoke from o w) h e = association o w
   advanced-row (links after) h e = absurd (omega arith)
   advanced-row (tells bs after) h e = absurd (omega arith)
   advanced-row (grants q from c) h e = absurd (omega arith)
-  advanced-row (grantsInside q n from k w c) h e = absurd (omega arith)
+  advanced-row (grantsInside q from k o w c) h e = absurd (omega arith)
 
 pub silent : Silent
 silent a m = silent-row a m (rows-hold a m)

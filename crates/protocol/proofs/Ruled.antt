@@ -3,7 +3,7 @@
 use mathlib.Core.Path.{_≡_, refl}
 use mathlib.Core.Bool.{Bool, true, false, cond, not, false≢true}
 use mathlib.Core.List.{List, [], _∷_, _++_}
-use Prim.Native.Nat.{ℕ, _≤_, _<_}
+use Prim.Native.Nat.{ℕ, _-_, _≤_, _<_}
 use native.Mathlib.Omega.{arith}
 use lib.ListN.{take, drop, length, length-append}
 use borrow.Author.Tests.{not-false}
@@ -15,7 +15,6 @@ use Rattle.model.specs.State.{none, Line}
 use Rattle.model.specs.Calls.{Lent}
 use Rattle.model.proofs.LimitFacts.{apdu-room, text-room}
 use Rattle.model.proofs.ListLaws.{both}
-use Rattle.wire.specs.Reading.{part}
 use Rattle.hdlc.specs.declared.Head.{Head}
 use Rattle.hdlc.specs.declared.Frame.{Frame}
 use Rattle.hdlc.specs.declared.Frame.the-variants.{Unanswered, Rejected, LinkUp, LinkDown, Apdu}
@@ -56,7 +55,7 @@ use Rattle.envelope.proofs.ProofLaws.{length-proof}
 use Rattle.protocol.specs.declared.Secrets.{Secrets}
 use Rattle.protocol.specs.Clients.{peer, associates, agreedIn, clientChallenge, selectiveIn, lentKeys, dedicatedKeys, isPending, isAssociated, permitted, bitAgreed, isUnknown}
 use Rattle.protocol.specs.Rulings.{Test, none as noTest, frame, linkUpWithInformation, p5HoldsV, linkDownWhileDown, dataWhileDown, unknownTag, tagNotPermitted, bitNotAgreed, aarqNotAccepted, envelopeUnopened, outsideWindow, malformedApdu, notTheChallenge, refusalOf, nothing, ua, dm, reject, apdu, Ruling, says, asks}
-use Rattle.protocol.specs.Outcomes.{Enclosed, get, action}
+use Rattle.protocol.specs.Outcomes.{apduOf, Enclosed, get, action, Opens, underGuk, underKey}
 use Rattle.protocol.specs.Decide.{heldByP5, linkUp, linkDown, acceptedPlain, acceptedCiphered, initiated, enclosed, associating, released, wrap, asked, accepted, advanced, askedInside, readInside, isChallenge, provesItself, provedText, proved, disproved, challenged, answeredChallenge, admitted, challengeEnclosed, requestEnclosed, byTag, conversed, carried, heard, secretsOf, ruled}
 
 -- the frame is this client's
@@ -78,7 +77,8 @@ pub data Ruled (l : Line) (a : Secrets) (f : List ℕ) : Ruling → Type 0 where
   unheard : (t : FrameTest) → numberOf t < 8 → Ruled l a f (says (frame t) nothing l)
   -- 6, 7
   unopened : Ruled l a f (says envelopeUnopened nothing l)
-  drops : From Han f → Ruled l a f (says outsideWindow nothing (associates Han none l))
+  drops : {tag counter : ℕ} {text : List ℕ} → From Han f → Opens a f l tag counter text → inWindow (l .han .counters .accepted) counter ≡ false
+      → Ruled l a f (says outsideWindow nothing (associates Han none l))
   -- 8, 9
   rejects : (t : FrameTest) → 8 ≤ numberOf t → Ruled l a f (says (frame t) (reject (headOf f) t) l)
   -- 10
@@ -87,17 +87,18 @@ pub data Ruled (l : Line) (a : Secrets) (f : List ℕ) : Ruling → Type 0 where
   departs : (c : Client) → From c f → Ruled l a f (says aarqNotAccepted (apdu (headOf f) (rejectedAare c)) l)
   -- 12, outside an envelope and inside
   excepts : (t : Test) (e : Exception) → refusalOf t ≡ 12 → Ruled l a f (says t (apdu (headOf f) (exceptionBytes e)) l)
-  exceptsInside : (t : Test) (e : Exception) (counter : ℕ) → refusalOf t ≡ 12 → From Han f → InWindow l counter
+  exceptsInside : (t : Test) (e : Exception) (counter : ℕ) {tag : ℕ} {text : List ℕ} → refusalOf t ≡ 12 → From Han f → Opens a f l tag counter text → InWindow l counter
       → Ruled l a f (says t (apdu (headOf f) (exceptionBytes e)) (accepted counter l))
   -- 13 of a wrong proof
-  disproves : (invoke counter : ℕ) → From Han f → InWindow l counter → Ruled l a f (disproved l a (headOf f) invoke counter)
+  disproves : (invoke counter : ℕ) {text : List ℕ} → From Han f → Opens a f l 0xCB counter text → InWindow l counter
+      → Ruled l a f (disproved l a (headOf f) invoke counter)
   -- 0 of the line: UA, or an APDU
   links : (after : Line) → Ruled l a f (says noTest (ua (headOf f)) after)
   tells : (bs : List ℕ) (after : Line) → Fits l a bs → Ruled l a f (says noTest (apdu (headOf f) bs) after)
   -- 0 or 13 of the body
   serves : (s : List ℕ) (q : Asked) → From Verification f
       → Ruled l a f (asks (requested Verification (selectiveIn Verification l) s q) (wrap (a .ak) (headOf f) 0xC0) l)
-  servesInside : (tag : ℕ) (s : List ℕ) (q : Asked) (counter : ℕ) → Enclosed tag → From Han f → InWindow l counter
+  servesInside : (tag : ℕ) (s : List ℕ) (q : Asked) (counter : ℕ) → Enclosed tag → From Han f → Opens a f l tag counter s → InWindow l counter
       → Ruled l a f (asks (requested Han (selectiveIn Han l) s q) (wrap (a .ak) (headOf f) tag) (advanced (accepted counter l)))
 
 -- an AARQ of a client that does not cipher is never read as ciphered
@@ -112,6 +113,10 @@ plain-alone c title s {d} {e} p q = go (isLaid (plainAarq c title) s 0) (rw p at
 module _ (l : Line) (a : Secrets) (f : List ℕ) where
   abbrev h : Head
   h = headOf f
+
+  -- the APDU that it carries
+  abbrev s : List ℕ
+  s = apduOf f
 
   abbrev Is : Ruling → Type 0
   Is r = Ruled l a f r
@@ -167,19 +172,22 @@ module _ (l : Line) (a : Secrets) (f : List ℕ) where
 
     -- Envelopes of H.
 
-    rules-admitted : (o : Opened) (g : (counter : ℕ) → List ℕ → Ruling) → ((counter : ℕ) (text : List ℕ) → InWindow l counter → Is (g counter text)) → Is (admitted l o g)
-    rules-admitted fails g k = unopened
-    rules-admitted (opens counter text) g k = ruled-if (inWindow (l .han .counters .accepted) counter) _ _ (k counter text) (λ _. drops from)
+    rules-admitted : {tag : ℕ} (o : Opened) (g : (counter : ℕ) → List ℕ → Ruling) → ((counter : ℕ) (text : List ℕ) → o ≡ opens counter text → Opens a f l tag counter text)
+        → ((counter : ℕ) (text : List ℕ) → Opens a f l tag counter text → InWindow l counter → Is (g counter text)) → Is (admitted l o g)
+    rules-admitted fails g b k = unopened
+    rules-admitted (opens counter text) g b k =
+        let o = b counter text refl in
+        ruled-if (inWindow (l .han .counters .accepted) counter) _ _ (k counter text o) (λ w. drops from o w)
 
-    rules-inside : (tag counter : ℕ) (text : List ℕ) → Enclosed tag → InWindow l counter → (r : Reading) → Is (askedInside l a h tag counter text r)
-    rules-inside tag counter text t w Malformed = exceptsInside malformedApdu ServiceUnknown counter refl from w
-    rules-inside tag counter text t w (Asks q) = servesInside tag text q counter t from w
+    rules-inside : (tag counter : ℕ) (text : List ℕ) → Enclosed tag → Opens a f l tag counter text → InWindow l counter → (r : Reading) → Is (askedInside l a h tag counter text r)
+    rules-inside tag counter text t o w Malformed = exceptsInside malformedApdu ServiceUnknown counter refl from o w
+    rules-inside tag counter text t o w (Asks q) = servesInside tag text q counter t from o w
 
-    rules-request : (tag : ℕ) (s : List ℕ) → Enclosed tag → Is (requestEnclosed l a h tag s)
+    rules-request : (tag : ℕ) → Enclosed tag → Is (requestEnclosed l a h tag s)
     unfolding requestEnclosed
-    rules-request tag s t =
-        rules-admitted (opened (dedicatedKeys (a .ak) l) (l .han .peer .title) tag s) _
-        (λ counter text w. rules-inside tag counter text t w (readInside tag text))
+    rules-request tag t =
+        rules-admitted (opened (dedicatedKeys (a .ak) l) (l .han .peer .title) tag s) _ (λ counter text e. underKey t e)
+        (λ counter text o w. rules-inside tag counter text t o w (readInside tag text))
 
     -- The challenge.
 
@@ -195,73 +203,76 @@ module _ (l : Line) (a : Secrets) (f : List ℕ) where
         tells (sealedEnvelope k (l .title) 0xCF number (start ++ proof)) _
         (λ _ _. omega (arith, length-envelope k (l .title) 0xCF number (start ++ proof), envelope-fits (length (start ++ proof)) (omega (arith, text-room))))
 
-    rules-challenged : (counter : ℕ) (text : List ℕ) (q : Asked) → InWindow l counter → Is (challenged l a h counter text q)
+    rules-challenged : (counter : ℕ) (text : List ℕ) (q : Asked) → Opens a f l 0xCB counter text → InWindow l counter → Is (challenged l a h counter text q)
     unfolding challenged
-    rules-challenged counter text q w =
-        ruled-if (not (isChallenge text q)) _ _ (λ _. exceptsInside notTheChallenge ServiceNotAllowed counter refl from w) λ _.
-        ruled-if (provesItself l a counter text q) _ _ (λ _. rules-proved (q .invoke) counter) (λ _. disproves (q .invoke) counter from w)
+    rules-challenged counter text q o w =
+        ruled-if (not (isChallenge text q)) _ _ (λ _. exceptsInside notTheChallenge ServiceNotAllowed counter refl from o w) λ _.
+        ruled-if (provesItself l a counter text q) _ _ (λ _. rules-proved (q .invoke) counter) (λ _. disproves (q .invoke) counter from o w)
 
-    rules-answered : (counter : ℕ) (text : List ℕ) → InWindow l counter → (r : Reading) → Is (answeredChallenge l a h counter text r)
-    rules-answered counter text w Malformed = exceptsInside malformedApdu ServiceUnknown counter refl from w
-    rules-answered counter text w (Asks q) = rules-challenged counter text q w
+    rules-answered : (counter : ℕ) (text : List ℕ) → Opens a f l 0xCB counter text → InWindow l counter → (r : Reading) → Is (answeredChallenge l a h counter text r)
+    rules-answered counter text o w Malformed = exceptsInside malformedApdu ServiceUnknown counter refl from o w
+    rules-answered counter text o w (Asks q) = rules-challenged counter text q o w
 
-    rules-challenge : (s : List ℕ) → Is (challengeEnclosed l a h s)
+    rules-challenge : Is (challengeEnclosed l a h s)
     unfolding challengeEnclosed
-    rules-challenge s =
-        rules-admitted (opened (lentKeys a) (l .han .peer .title) 0xCB s) _ (λ counter text w. rules-answered counter text w (readAction text))
+    rules-challenge =
+        rules-admitted (opened (lentKeys a) (l .han .peer .title) 0xCB s) _ (λ counter text e. underGuk e)
+        (λ counter text o w. rules-answered counter text o w (readAction text))
 
   -- By the tag.
 
-  rules-released : (c : Client) (s : List ℕ) → Is (released l c h s)
+  rules-released : (c : Client) → Is (released l c h s)
   unfolding released
-  rules-released c s =
+  rules-released c =
       ruled-if (isRelease s) _ _ (λ _. tells releaseResponse _ (λ _ _. omega (arith, apdu-room))) (λ _. excepts malformedApdu ServiceUnknown refl)
 
-  rules-asked : From Verification f → (s : List ℕ) (r : Reading) → Is (asked l a Verification h s r)
-  rules-asked from s Malformed = excepts malformedApdu ServiceUnknown refl
-  rules-asked from s (Asks q) = serves s q from
+  rules-asked : From Verification f → (r : Reading) → Is (asked l a Verification h s r)
+  rules-asked from Malformed = excepts malformedApdu ServiceUnknown refl
+  rules-asked from (Asks q) = serves s q from
 
   -- an AARQ is read as ciphered from H alone
-  rules-associating : (c : Client) → From c f → (s : List ℕ) (r : ReadAarq) → readAarq s c (peer c l .title) ≡ r → Is (associating l a c h s r)
-  rules-associating c from s (Plain p) q = rules-plain (take 3 (drop p s))
-  rules-associating Han from s (Ciphered d e) q = rules-enclosed from (take 8 (drop d s)) (opened (lentKeys a) (l .han .peer .title) 0x21 (drop e s))
-  rules-associating Verification from s (Ciphered d e) q = absurd (plain-alone Verification (l .verification .title) s refl q)
-  rules-associating c from s Departs q = departs c from
+  rules-associating : (c : Client) → From c f → (r : ReadAarq) → readAarq s c (peer c l .title) ≡ r → Is (associating l a c h s r)
+  rules-associating c from (Plain p) q = rules-plain (take 3 (drop p s))
+  rules-associating Han from (Ciphered d e) q = rules-enclosed from (take 8 (drop d s)) (opened (lentKeys a) (l .han .peer .title) 0x21 (drop e s))
+  rules-associating Verification from (Ciphered d e) q = absurd (plain-alone Verification (l .verification .title) s refl q)
+  rules-associating c from Departs q = departs c from
 
-  rules-tag : (c : Client) → From c f → (s : List ℕ) (t : Tag) → permitted c (peer c l .association) t ≡ true → Is (byTag l a c h s t)
-  rules-tag c from s Aarq p = rules-associating c from s (readAarq s c (peer c l .title)) refl
-  rules-tag c from s Rlrq p = rules-released c s
-  rules-tag Verification from s GetRequest p = rules-asked from s (readGet s)
-  rules-tag Han from s GetRequest p = absurd (false≢true (both (isAssociated (l .han .peer .association)) false p .1))
-  rules-tag c from s SetRequest p = excepts tagNotPermitted ServiceNotAllowed refl
-  rules-tag c from s ActionRequest p = excepts tagNotPermitted ServiceNotAllowed refl
-  rules-tag Han from s GloActionRequest p = rules-challenge from s
-  rules-tag Verification from s GloActionRequest p = absurd (false≢true (both (isPending (l .verification .association)) false p .1))
-  rules-tag Han from s DedGetRequest p = rules-request from 0xD0 s get
-  rules-tag Verification from s DedGetRequest p = absurd (false≢true (both (isAssociated (l .verification .association)) false p .1))
-  rules-tag c from s DedSetRequest p = excepts tagNotPermitted ServiceNotAllowed refl
-  rules-tag Han from s DedActionRequest p = rules-request from 0xD3 s action
-  rules-tag Verification from s DedActionRequest p = absurd (false≢true (both (isAssociated (l .verification .association)) false p .1))
-  rules-tag c from s Unknown p = excepts unknownTag ServiceUnknown refl
+  rules-tag : (c : Client) → From c f → (t : Tag) → permitted c (peer c l .association) t ≡ true → Is (byTag l a c h s t)
+  rules-tag c from Aarq p = rules-associating c from (readAarq s c (peer c l .title)) refl
+  rules-tag c from Rlrq p = rules-released c
+  rules-tag Verification from GetRequest p = rules-asked from (readGet s)
+  rules-tag Han from GetRequest p = absurd (false≢true (both (isAssociated (l .han .peer .association)) false p .1))
+  rules-tag c from SetRequest p = excepts tagNotPermitted ServiceNotAllowed refl
+  rules-tag c from ActionRequest p = excepts tagNotPermitted ServiceNotAllowed refl
+  rules-tag Han from GloActionRequest p = rules-challenge from
+  rules-tag Verification from GloActionRequest p = absurd (false≢true (both (isPending (l .verification .association)) false p .1))
+  rules-tag Han from DedGetRequest p = rules-request from 0xD0 get
+  rules-tag Verification from DedGetRequest p = absurd (false≢true (both (isAssociated (l .verification .association)) false p .1))
+  rules-tag c from DedSetRequest p = excepts tagNotPermitted ServiceNotAllowed refl
+  rules-tag Han from DedActionRequest p = rules-request from 0xD3 action
+  rules-tag Verification from DedActionRequest p = absurd (false≢true (both (isAssociated (l .verification .association)) false p .1))
+  rules-tag c from Unknown p = excepts unknownTag ServiceUnknown refl
 
-  rules-conversed : (c : Client) → From c f → (s : List ℕ) (t : Tag) → Is (conversed l a c h s t)
+  rules-conversed : (c : Client) → From c f → (t : Tag) → Is (conversed l a c h s t)
   unfolding conversed
-  rules-conversed c from s t =
+  rules-conversed c from t =
       ruled-if (isUnknown t) _ _ (λ _. excepts unknownTag ServiceUnknown refl) λ _.
       ruled-if (not (permitted c (peer c l .association) t)) _ _ (λ _. excepts tagNotPermitted ServiceNotAllowed refl) λ p.
       ruled-if (not (bitAgreed (agreedIn (peer c l .association)) t)) _ _ (λ _. excepts bitNotAgreed ServiceNotAllowed refl) λ _.
-      rules-tag c from s t (not-false _ p)
+      rules-tag c from t (not-false _ p)
 
-  rules-carried : (c : Client) → From c f → (s : List ℕ) → Is (carried l a c h s)
+  rules-carried : (c : Client) → From c f → Is (carried l a c h s)
   unfolding carried
-  rules-carried c from s = ruled-if (peer c l .up) _ _ (λ _. rules-conversed c from s (tagIn s)) (λ _. noLink dataWhileDown refl)
+  rules-carried c from = ruled-if (peer c l .up) _ _ (λ _. rules-conversed c from (tagIn s)) (λ _. noLink dataWhileDown refl)
 
   pub rules-heard : (x : Frame) → Told f x → Is (heard l a f x)
   rules-heard (Unanswered t) told = unheard t (told .0)
   rules-heard (Rejected t g) told = rw (told .2) (rejects t (told .0))
   rules-heard (LinkUp c g i) told = rw (told .1) (rules-up c i)
   rules-heard (LinkDown c g) told = rw (told .1) (rules-down c)
-  rules-heard (Apdu c g start end) told = rw (told .1) (rules-carried c (told .0 .source) (part start end f))
+  rules-heard (Apdu c g start end) told =
+      let last : end ≡ length f - 3 = omega (arith, told .2 .last) in
+      rw (told .1, told .2 .first, last) (rules-carried c (told .0 .source))
 
 -- what a frame comes to, whatever the line
 pub rules : (l : Line) (a : Lent) → Ruled l (secretsOf a) (a .received) (ruled l a)

@@ -2,17 +2,18 @@
 -- `NextCounter` and `SecondRowRead` of specs/Lazy, proved.
 use mathlib.Core.Path.{_≡_, refl, sym, ap, _∙_}
 use mathlib.Core.Bool.{Bool, true, false, _||_, false≢true}
-use mathlib.Core.List.{List, [], _∷_, flatMap}
-use Prim.Native.Nat.{ℕ, _≤_}
+use mathlib.Core.List.{List, [], _∷_, _++_, flatMap}
+use Prim.Native.Nat.{ℕ, _+_, _^_, _≤_, _<_}
 use native.Mathlib.Omega.{arith}
 use lib.Dec.{lit<, lit≤}
-use lib.ListN.{length, replicate}
+use lib.ListN.{length, drop, replicate, length-append}
 use borrow.Author.Tests.{le-leb}
 use Rattle.wire.specs.Numbers.{lengthField}
 use Rattle.wire.specs.Reading.{sameBytes, skipped, expected, filled, numberAt}
+use Rattle.model.specs.declared.Client.{Client}
 use Rattle.model.specs.declared.Client.the-variants.{Han}
 use Rattle.model.specs.declared.Clock.{Clock}
-use Rattle.model.specs.Limits.{longestSent, longestReceived, replyRoom, greatestApdu, envelopeLength, dataRoom, maxRows, maxRegisters, maxColumns}
+use Rattle.model.specs.Limits.{longestSent, longestReceived, replyRoom, apduRoom, textRoom, greatestApdu, envelopeLength, dataRoom, maxRows, maxRegisters, maxColumns}
 use Rattle.model.specs.Clocks.{februaryDays, daysIn, realDate, realTime, fixedBytes, validClock}
 use Rattle.model.specs.Periods.{periods, captureDue}
 use Rattle.model.specs.Services.{within}
@@ -21,29 +22,37 @@ use Rattle.model.specs.Soundness.{acceptedRegisters, acceptedColumns, isNone, a
 use Rattle.model.specs.Objects.{Request, Turn, granted, rowData, rowsData, attributeData, fitting, attributeRead, getAnswer, turned}
 use Rattle.model.specs.Calls.{Lent, tick, Outcome, captured, serve, decided, step}
 use Rattle.model.specs.Archive.{rowsOf}
-use Rattle.model.proofs.LimitFacts.{data-room}
+use Rattle.model.proofs.LimitFacts.{apdu-room, data-room}
 use Rattle.model.proofs.ListLaws.{both}
 use Rattle.model.proofs.SoundnessLaws.{sound-passes}
 use Rattle.hdlc.specs.declared.Head.{Head}
+use Rattle.hdlc.specs.Layout.{ui, headOf}
+use Rattle.hdlc.specs.Addresses.{meterAddress, addressOf}
+use Rattle.hdlc.specs.Tests.{meterSide, requestLlc, replyLlc}
+use Rattle.hdlc.specs.Replies.{apduFrame}
+use Rattle.hdlc.proofs.LayoutLaws.{information-rest, length-full}
+use Rattle.hdlc.proofs.RoundTrip.{read-back, reply-back}
 use Rattle.cosem.specs.declared.Wanted.the-variants.{Read}
 use Rattle.cosem.specs.declared.Asked.{Asked}
 use Rattle.cosem.specs.declared.Reading.the-variants.{Asks}
 use Rattle.cosem.specs.Tags.{tagOf, tagIn}
 use Rattle.cosem.specs.Requests.{optionalPart, readGet, nameIn, requested}
-use Rattle.counters.specs.Advance.{taken}
+use Rattle.counters.specs.Advance.{nextCounter, taken}
 use Rattle.counters.specs.Window.{inWindow, accepting}
 use Rattle.envelope.specs.declared.Keys.{Keys}
 use Rattle.envelope.specs.Layout.{head, sealedEnvelope}
-use Rattle.envelope.specs.Opening.{longestApdu}
-use Rattle.envelope.proofs.CloseLaws.{length-envelope, envelope-size}
+use Rattle.envelope.specs.Opening.{longestApdu, opens, opened}
+use Rattle.envelope.proofs.ShapeLaws.{longest-apdu}
+use Rattle.envelope.proofs.CloseLaws.{length-envelope, envelope-size, envelope-fits}
 use Rattle.envelope.proofs.RoundTrip.{opens-closed}
 use Rattle.meter.proofs.SameSecond.{afterDue, due-step, two-more, two-rows}
 use Rattle.protocol.specs.Clients.{selectiveIn, dedicatedKeys, isAssociated}
 use Rattle.protocol.specs.Rulings.{Ruling, asks, decision}
-use Rattle.protocol.specs.Decide.{wrap, accepted, advanced, readInside, requestEnclosed, conversed, carried, around, seal, secretsOf, p2}
-use Rattle.protocol.specs.Outcomes.{headIn, Enclosed, get, action, toH}
+use Rattle.protocol.specs.Decide.{wrap, accepted, advanced, readInside, requestEnclosed, conversed, carried, answerTag, around, seal, secretsOf, p2}
+use Rattle.protocol.specs.Outcomes.{outcome, headIn, apduOf, Enclosed, get, action, toH}
 use Rattle.protocol.specs.Lazy.{requestFrame, Asking, NextCounter, twice, bothRows, getProfile, SecondRowRead, SecondRowHappens}
 use Rattle.protocol.proofs.Claim.{p2-stays-sound}
+use Rattle.protocol.proofs.Turns.{read-fits}
 use Rattle.protocol.proofs.LinkUp.{outcome-ruled, ruled-request, tag-first}
 
 -- Enclosed requests.
@@ -147,15 +156,71 @@ both-rows : (t : Clock) (m : Model) → rowsOf (afterDue t (afterDue t m)) ≡ b
 unfolding afterDue captured
 both-rows t m = two-more maxRows _ _ (rowsOf m) two-rows
 
-pub second-row-read : SecondRowRead
+-- What H finds.
+
+-- the answer to a request, at its client: the APDU that the frame carries
+reply-apdu : (a : Lent) (c : Client) (s bs : List ℕ) → a .received ≡ requestFrame c s → 3 + length s ≤ longestReceived → 0 < length bs → 3 + length bs ≤ longestSent
+    → apduOf (apduFrame (headIn a) bs) ≡ bs
+unfolding longestReceived
+reply-apdu a c s bs e short some fits =
+    let request = read-back meterSide meterAddress (addressOf c) ui (requestLlc ++ s) refl (omega arith) (omega (arith, length-append requestLlc s)) in
+    let h = ap headOf e ∙ request .head in
+    let f = apduFrame (headIn a) bs in
+    let n = length-append replyLlc bs in
+    let i = reply-back c (headIn a) (ap (λ (x : Head). x .source) h) (ap (λ (x : Head). x .destination) h) (replyLlc ++ bs) (omega arith) (omega arith) .information in
+    let long = length-full (headIn a .source) (headIn a .destination) ui (replyLlc ++ bs) (omega arith) in
+    information-rest f (omega arith) ∙ ap (drop 3) i
+
+-- an APDU that fits has room for LLC
+sent-fits : (bs : List ℕ) → length bs ≤ apduRoom longestSent → 3 + length bs ≤ longestSent
+unfolding longestSent apduRoom
+sent-fits bs h = omega arith
+
+next-small : (n : ℕ) → nextCounter n < 256 ^ 4
+unfolding nextCounter
+next-small n = omega arith
+
+-- an answer of H that fits opens
+answer-opens : (a : Lent) (l : Line) (tag counter : ℕ) (wanted : List ℕ) → Asking a l tag counter wanted → (text : List ℕ) → length text ≤ textRoom longestSent
+    → opened (dedicatedKeys (a .ak) l) (l .title) (answerTag tag) (apduOf (toH a l tag text)) ≡ opens (nextCounter (l .han .counters .sent)) text
+unfolding greatestApdu longestReceived
+answer-opens a l tag counter wanted k text fits =
+    let number = nextCounter (l .han .counters .sent) in
+    let request = sealedEnvelope (dedicatedKeys (a .ak) l) (l .han .peer .title) tag counter wanted in
+    let answer = sealedEnvelope (dedicatedKeys (a .ak) l) (l .title) (answerTag tag) number text in
+    let short = k .short in
+    let m = length-envelope (dedicatedKeys (a .ak) l) (l .han .peer .title) tag counter wanted in
+    let n = length-envelope (dedicatedKeys (a .ak) l) (l .title) (answerTag tag) number text in
+    let size = envelope-size (length text) in
+    let most = envelope-fits (length text) fits in
+    rw (reply-apdu a Han request answer (k .received) (omega arith) (omega arith) (sent-fits answer (omega arith)))
+    (opens-closed (dedicatedKeys (a .ak) l) (l .title) (answerTag tag) number text (next-small (l .han .counters .sent)) (omega (arith, apdu-room, longest-apdu)))
+
+second-row-answer : (a : Lent) (m : Model) (t : Clock) (counter invoke : ℕ) → sound m ≡ true → validClock t ≡ true → captureDue (m .body .period) t ≡ true
+    → Asking a (m .line) 0xD0 counter (getProfile invoke) → length (rowsData (bothRows t m)) ≤ dataRoom longestSent
+    → outcome a (twice t m)
+    ≡ record {
+      refusal = 0;
+      sent = toH a (m .line) 0xD0 (getAnswer invoke (granted (rowsData (bothRows t m))));
+      next = record { line = advanced (accepted counter (m .line)); body = twice t m .body };
+    }
 unfolding afterDue
-second-row-read a m t counter invoke s v d k fits =
+second-row-answer a m t counter invoke s v d k fits =
     let n = afterDue t (afterDue t m) in
     let twice-sound : sound n ≡ true = after-sound t (afterDue t m) (after-sound t m s v d) v (still-due t m s v d) in
     let read = profile-read (selectiveIn Han (m .line)) invoke (n .body) (bothRows t m) (both-rows t m) fits in
     rw (twice-due t m s v d)
     (next-counter a n 0xD0 counter (getProfile invoke) (profileAsked invoke) twice-sound get k (profile-asked invoke)
     ∙ ap (λ (x : Turn). record { refusal = x .refusal; sent = toH a (m .line) 0xD0 (x .bytes); next = record { line = advanced (accepted counter (m .line)); body = x .body } }) read)
+
+pub second-row-read : SecondRowRead
+second-row-read a m t counter invoke s v d k fits =
+    let answer = second-row-answer a m t counter invoke s v d k fits in
+    let text = getAnswer invoke (granted (rowsData (bothRows t m))) in
+    record {
+      answer = answer;
+      found = rw answer (answer-opens a (m .line) 0xD0 counter (getProfile invoke) k text (read-fits invoke (granted (rowsData (bothRows t m))) fits));
+    }
 
 -- A new meter with an associated H, at its first clock.
 

@@ -39,7 +39,7 @@ turning q b = go (meaning (q .client) (q .name) (b .store .registers)) (q .servi
 
 -- Its length.
 
-abbrev Sized : Result → Type 0
+abbrev pub Sized : Result → Type 0
 Sized (granted d) = length d ≤ dataRoom longestSent
 Sized (denied c) = Unit {0}
 
@@ -63,7 +63,7 @@ sized-read q a s b (known o) =
     sized-if (not (serves (o .attributes) a)) _ _ (λ _. tt) λ _.
     sized-shown (o .content) (q .name) a b (selectedRows (takesSelector (o .content) a && q .selective) s (b .store .rows))
 
-read-fits : (invoke : ℕ) (r : Result) → Sized r → length (getAnswer invoke r) ≤ textRoom longestSent
+pub read-fits : (invoke : ℕ) (r : Result) → Sized r → length (getAnswer invoke r) ≤ textRoom longestSent
 read-fits invoke (granted d) h = omega (arith, text-room, data-room)
 read-fits invoke (denied c) h = omega (arith, text-room)
 

@@ -1,4 +1,5 @@
--- The fourteen marked examples of document 01, as one table; proofs/Examples shows that all of them hold.
+-- The fourteen marked examples of document 01, as one table; proofs/Examples shows that its numbers are 1 to 14, in order, and
+-- that all of them hold.
 use mathlib.Core.Bool.{Bool, false, not}
 use mathlib.Core.List.{List, [], _∷_, map}
 use Prim.Native.Nat.{ℕ, zero, suc}

@@ -16,7 +16,7 @@ use Rattle.model.specs.Limits.{longestSent, longestReceived, replyRoom, envelop
 use Rattle.model.specs.Clocks.{validClock}
 use Rattle.model.specs.Periods.{captureDue}
 use Rattle.model.specs.Services.{offered, common}
-use Rattle.model.specs.State.{associated, Line, Model, Entry, withLine, newMeter}
+use Rattle.model.specs.State.{pending, associated, Line, Model, Entry, newMeter}
 use Rattle.model.specs.Soundness.{sound}
 use Rattle.model.specs.Objects.{granted, rowsData, getAnswer, turned}
 use Rattle.model.specs.Calls.{Lent, tick, step}
@@ -33,16 +33,18 @@ use Rattle.cosem.specs.declared.Reading.the-variants.{Asks}
 use Rattle.cosem.specs.Tags.{tagOf}
 use Rattle.cosem.specs.Requests.{requested}
 use Rattle.acse.specs.Clients.{plainContext, cipheredContext, noSecurity, gmacSecurity}
-use Rattle.acse.specs.Aare.{plainAare}
+use Rattle.acse.specs.Initiate.{initiateResponse}
+use Rattle.acse.specs.Aare.{plainAare, cipheredAareHead}
 use Rattle.counters.specs.Advance.{nextCounter}
 use Rattle.counters.specs.Window.{windowSize}
 use Rattle.envelope.specs.Layout.{sealedEnvelope}
+use Rattle.envelope.specs.Opening.{opens, opened}
 use Rattle.envelope.specs.Challenge.{proofValue}
 use Rattle.meter.specs.SameSecond.{nextRow}
 use Rattle.protocol.specs.Clients.{peer, withPeer, linked, associates, withCounters, agreedIn, selectiveIn, lentKeys, dedicatedKeys, isAssociated, bitAgreed}
-use Rattle.protocol.specs.Decide.{readInside, accepted, advanced, secretsOf, p2}
+use Rattle.protocol.specs.Decide.{readInside, accepted, advanced, provedText, secretsOf, p2}
 use Rattle.protocol.specs.Examples.{linkUpFrame}
-use Rattle.protocol.specs.Outcomes.{outcome, headIn, said, Enclosed, Accepted, toH}
+use Rattle.protocol.specs.Outcomes.{outcome, headIn, apduOf, said, Enclosed, Accepted, toH}
 
 -- enough is lent: neither "reply room below 779", nor "lent GUK or AK not 16 bytes, or challenge not 8"
 pub record Enough (a : Lent) : Type 0 where
@@ -195,17 +197,31 @@ pub record Enters (title : List ℕ) (e : Entrance) (link aarq proof : Lent) : T
       (sealedEnvelope (lentKeys (secretsOf proof)) title 0xCB (e .outer)
       (proofOfH (e .invoke) (proofValue (lentKeys (secretsOf proof)) title (aarq .challenge) (e .inner))))
 
--- each is accepted; then H is associated with the services agreed and its key, and three counters have been taken
+-- each is accepted. The AARE's envelope goes out under the meter's counter plus one, and H is pending; the meter's proof goes out
+-- under the next, its envelope under the one after, and H is associated with the services agreed and its key.
 pub record LetInH (m : Model) (e : Entrance) (link aarq proof : Lent) : Type 0 where
   pub first : outcome link m ≡ said 0 (uaFrame (headIn link)) (up Han (m .line)) m
-  pub second : outcome aarq (outcome link m .next) .refusal ≡ 0
-  pub third : outcome proof (outcome aarq (outcome link m .next) .next) .refusal ≡ 0
-  pub after :
-      outcome proof (outcome aarq (outcome link m .next) .next) .next
-      ≡ withLine
-      (withCounters (record { accepted = e .outer; sent = nextCounter (nextCounter (nextCounter (m .line .han .counters .sent))) })
+  pub second :
+      outcome aarq (outcome link m .next)
+      ≡ (let sent = m .line .han .counters .sent in
+      let agreed = common (e .services) (offered Han) in
+      said 0
+      (apduFrame (headIn aarq)
+      (cipheredAareHead Han (m .line .title) (aarq .challenge)
+      ++ sealedEnvelope (lentKeys (secretsOf aarq)) (m .line .title) 0x28 (nextCounter sent) (initiateResponse agreed)))
+      (withCounters (record { accepted = e .first; sent = nextCounter sent })
+      (associates Han (pending agreed (e .key) (e .challenge) (aarq .challenge)) (up Han (m .line))))
+      m)
+  pub third :
+      outcome proof (outcome aarq (outcome link m .next) .next)
+      ≡ (let number = nextCounter (nextCounter (m .line .han .counters .sent)) in
+      let keys = lentKeys (secretsOf proof) in
+      said 0
+      (apduFrame (headIn proof)
+      (sealedEnvelope keys (m .line .title) 0xCF (nextCounter number) (provedText keys (m .line .title) (e .challenge) (e .invoke) number)))
+      (withCounters (record { accepted = e .outer; sent = nextCounter number })
       (associates Han (associated (common (e .services) (offered Han)) (e .key)) (up Han (m .line))))
-      m
+      m)
 
 abbrev pub HanLetIn : Type 0
 HanLetIn =
@@ -262,6 +278,20 @@ abbrev pub getProfile : ℕ → List ℕ
 getProfile invoke =
     0xC0 ∷ 0x01 ∷ invoke ∷ 0x00 ∷ 0x07 ∷ 0x00 ∷ 0x00 ∷ 0x15 ∷ 0x00 ∷ 0x06 ∷ 0xFF ∷ 0x02 ∷ 0x00 ∷ []
 
+-- the answer to H's GET of the profile, and what H finds in it: the APDU of the frame opens under H's keys and the meter's title,
+-- with the meter's counter plus one, and the text in it is the rows
+pub record RowsRead (a : Lent) (m : Model) (t : Clock) (counter invoke : ℕ) : Type 0 where
+  pub answer :
+      outcome a (twice t m)
+      ≡ record {
+        refusal = 0;
+        sent = toH a (m .line) 0xD0 (getAnswer invoke (granted (rowsData (bothRows t m))));
+        next = record { line = advanced (accepted counter (m .line)); body = twice t m .body };
+      }
+  pub found :
+      opened (dedicatedKeys (a .ak) (m .line)) (m .line .title) 0xD4 (apduOf (outcome a (twice t m) .sent))
+      ≡ opens (nextCounter (m .line .han .counters .sent)) (getAnswer invoke (granted (rowsData (bothRows t m))))
+
 -- after two due ticks of the same clock H reads both rows, in an envelope, where they fit one
 abbrev pub SecondRowRead : Type 0
 SecondRowRead =
@@ -271,12 +301,7 @@ SecondRowRead =
     → captureDue (m .body .period) t ≡ true
     → Asking a (m .line) 0xD0 counter (getProfile invoke)
     → length (rowsData (bothRows t m)) ≤ dataRoom longestSent
-    → outcome a (twice t m)
-    ≡ record {
-      refusal = 0;
-      sent = toH a (m .line) 0xD0 (getAnswer invoke (granted (rowsData (bothRows t m))));
-      next = record { line = advanced (accepted counter (m .line)); body = twice t m .body };
-    }
+    → RowsRead a m t counter invoke
 
 -- and there is such a meter, clock and frame
 pub record SecondRowHappens : Type 0 where

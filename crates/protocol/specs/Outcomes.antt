@@ -1,10 +1,12 @@
 -- Document 01's table "What goes out", for frame calls: its rows, and its cells one by one, of every meter, sound or not, and
--- whatever is lent. Proved in proofs/Outcomes and proofs/Framed.
+-- whatever is lent. `Answers` alone asks something of the meter: that its own title, which an AARE holds, has its 8 bytes; a
+-- longer one would not fit the frame. Proved in proofs/Outcomes and proofs/Framed.
 use mathlib.Core.Path.{_≡_}
-use mathlib.Core.Bool.{true}
+use mathlib.Core.Bool.{true, false}
 use mathlib.Core.List.{List, [], _∷_}
-use Prim.Native.Nat.{ℕ, _≤_}
+use Prim.Native.Nat.{ℕ, _-_, _≤_}
 use lib.ListN.{length, take}
+use Rattle.wire.specs.Reading.{part}
 use Rattle.model.specs.declared.Client.{Client}
 use Rattle.model.specs.declared.Client.the-variants.{Verification, Han}
 use Rattle.model.specs.Limits.{longestSent, replyRoom}
@@ -22,9 +24,11 @@ use Rattle.cosem.specs.declared.Exception.{Exception}
 use Rattle.cosem.specs.Tags.{exceptionBytes}
 use Rattle.acse.specs.Aare.{rejectedAare}
 use Rattle.counters.specs.Advance.{nextCounter}
-use Rattle.counters.specs.Window.{inWindow, accepting}
+use Rattle.counters.specs.Window.{inWindow}
 use Rattle.envelope.specs.Layout.{sealedEnvelope}
-use Rattle.protocol.specs.Clients.{associates, withCounters, lentKeys, dedicatedKeys}
+use Rattle.envelope.specs.Opening.{opens, opened}
+use Rattle.protocol.specs.declared.Secrets.{Secrets}
+use Rattle.protocol.specs.Clients.{associates, lentKeys, dedicatedKeys}
 use Rattle.protocol.specs.Decide.{accepted, advanced, secretsOf, answerTag, p2}
 
 -- what the call comes to
@@ -34,6 +38,10 @@ outcome a m = step p2 (frame a) m
 -- the received frame's address bytes and control
 abbrev pub headIn : Lent → Head
 headIn a = headOf (a .received)
+
+-- the APDU that a frame carries: what stands after LLC and before the FCS
+abbrev pub apduOf : List ℕ → List ℕ
+apduOf f = part 11 (length f - 3) f
 
 -- its source is the address of this client
 abbrev pub SentBy : Client → Lent → Type 0
@@ -59,6 +67,23 @@ pub data Denial : List ℕ → Type 0 where
 abbrev pub Accepted : ℕ → Line → Type 0
 Accepted n l = inWindow (l .han .counters .accepted) n ≡ true
 
+-- and one that is not
+abbrev pub Outside : ℕ → Line → Type 0
+Outside n l = inWindow (l .han .counters .accepted) n ≡ false
+
+-- the APDU of a received frame is an envelope of H that opens, with this tag, counter and text: a proof under GUK, a request under
+-- the dedicated key
+pub data Opens (s : Secrets) (received : List ℕ) (l : Line) : (tag counter : ℕ) → (text : List ℕ) → Type 0 where
+  underGuk : {counter : ℕ} {text : List ℕ} → opened (lentKeys s) (l .han .peer .title) 0xCB (apduOf received) ≡ opens counter text
+      → Opens s received l 0xCB counter text
+  underKey : {tag counter : ℕ} {text : List ℕ} → Enclosed tag
+      → opened (dedicatedKeys (s .ak) l) (l .han .peer .title) tag (apduOf received) ≡ opens counter text
+      → Opens s received l tag counter text
+
+-- that of the frame of a call
+abbrev pub Brings : Lent → Line → (tag counter : ℕ) → (text : List ℕ) → Type 0
+Brings a l tag n text = Opens (secretsOf a) (a .received) l tag n text
+
 -- what goes out around an answer to V's request, and around one to H's with this tag: in an envelope, of which the meter's
 -- counter plus one is the counter
 abbrev pub toV : Lent → List ℕ → List ℕ
@@ -71,8 +96,9 @@ toH a l tag text =
 pub data Row (a : Lent) (m : Model) : Outcome → Type 0 where
   -- 1 to 6: both cells are empty
   refuses : (n : ℕ) → listed n (1 ∷ 2 ∷ 3 ∷ 4 ∷ 5 ∷ 6 ∷ []) ≡ true → Row a m (refused n m)
-  -- 7: "that association is dropped"
-  drops : SentBy Han a → Row a m (said 7 [] (associates Han none (m .line)) m)
+  -- 7: "that association is dropped", by an envelope that opened and whose counter lies outside the window
+  drops : {tag n : ℕ} {asked : List ℕ} → SentBy Han a → Brings a (m .line) tag n asked → Outside n (m .line)
+      → Row a m (said 7 [] (associates Han none (m .line)) m)
   -- 8: "FRMR, code 0100"
   overLength : Row a m (said 8 (replyFrame (headIn a) frmr (headIn a .control ∷ 0x00 ∷ 0x04 ∷ [])) (m .line) m)
   -- 9: "FRMR, code 0001"
@@ -83,13 +109,13 @@ pub data Row (a : Lent) (m : Model) : Outcome → Type 0 where
   notAccepted : (c : Client) → SentBy c a → Row a m (said 11 (apduFrame (headIn a) (rejectedAare c)) (m .line) m)
   -- 12: "exception"; "an opened envelope's counter becomes the last accepted"
   exception : (e : Exception) → Row a m (said 12 (apduFrame (headIn a) (exceptionBytes e)) (m .line) m)
-  exceptionInside : (e : Exception) (n : ℕ) → SentBy Han a → Accepted n (m .line)
+  exceptionInside : (e : Exception) {tag n : ℕ} {asked : List ℕ} → SentBy Han a → Brings a (m .line) tag n asked → Accepted n (m .line)
       → Row a m (said 12 (apduFrame (headIn a) (exceptionBytes e)) (accepted n (m .line)) m)
   -- 13: "result code"; "for H, counters advance; a wrong proof ends the association"
   denial : {text : List ℕ} → SentBy Verification a → Denial text → Row a m (said 13 (toV a text) (m .line) m)
-  denialInside : {text : List ℕ} {tag : ℕ} (n : ℕ) → SentBy Han a → Enclosed tag → Accepted n (m .line) → Denial text
+  denialInside : {text asked : List ℕ} {tag n : ℕ} → SentBy Han a → Enclosed tag → Brings a (m .line) tag n asked → Accepted n (m .line) → Denial text
       → Row a m (said 13 (toH a (m .line) tag text) (advanced (accepted n (m .line))) m)
-  wrongProof : (invoke n : ℕ) → SentBy Han a → Accepted n (m .line)
+  wrongProof : (invoke : ℕ) {n : ℕ} {asked : List ℕ} → SentBy Han a → Brings a (m .line) 0xCB n asked → Accepted n (m .line)
       → Row a m (said 13
       (apduFrame (headIn a)
       (sealedEnvelope (lentKeys (secretsOf a)) (m .line .title) 0xCF (nextCounter (m .line .han .counters .sent)) (actionAnswer invoke (denied 250))))
@@ -99,7 +125,7 @@ pub data Row (a : Lent) (m : Model) : Outcome → Type 0 where
   tells : (bs : List ℕ) (after : Line) → Row a m (said 0 (apduFrame (headIn a) bs) after m)
   grants : (q : Request) → SentBy Verification a → q .client ≡ Verification
       → Row a m (record { refusal = 0; sent = toV a (turned q (m .body) .bytes); next = record { line = m .line; body = turned q (m .body) .body } })
-  grantsInside : {tag : ℕ} (q : Request) (n : ℕ) → SentBy Han a → Enclosed tag → Accepted n (m .line) → q .client ≡ Han
+  grantsInside : {tag n : ℕ} {asked : List ℕ} (q : Request) → SentBy Han a → Enclosed tag → Brings a (m .line) tag n asked → Accepted n (m .line) → q .client ≡ Han
       → Row a m (record {
         refusal = 0;
         sent = toH a (m .line) tag (turned q (m .body) .bytes);
@@ -130,16 +156,28 @@ keeping = 1 ∷ 2 ∷ 3 ∷ 4 ∷ 5 ∷ 6 ∷ 8 ∷ 9 ∷ 10 ∷ 11 ∷ []
 abbrev pub Unchanged : Type 0
 Unchanged = (a : Lent) (m : Model) → listed (outcome a m .refusal) keeping ≡ true → outcome a m .next ≡ m
 
--- 7: "that association is dropped", and nothing else
+-- 7: "that association is dropped", and nothing else. The frame brought an envelope of H that opened, so that no forged frame
+-- drops an association, and its counter lay outside the window.
+pub record Dropping (a : Lent) (m after : Model) : Type 0 where
+  pub tag : ℕ
+  pub counter : ℕ
+  pub text : List ℕ
+  pub sender : SentBy Han a
+  pub envelope : Brings a (m .line) tag counter text
+  pub outside : Outside counter (m .line)
+  pub drops : after ≡ withLine (associates Han none (m .line)) m
+
 abbrev pub Dropped : Type 0
-Dropped = (a : Lent) (m : Model) → outcome a m .refusal ≡ 7 → outcome a m .next ≡ withLine (associates Han none (m .line)) m
+Dropped = (a : Lent) (m : Model) → outcome a m .refusal ≡ 7 → Dropping a m (outcome a m .next)
 
 -- 12: "an opened envelope's counter becomes the last accepted", and nothing else
+pub data Excepting (a : Lent) (m : Model) : Model → Type 0 where
+  plain : Excepting a m m
+  inside : {tag n : ℕ} {text : List ℕ} → SentBy Han a → Brings a (m .line) tag n text → Accepted n (m .line)
+      → Excepting a m (withLine (accepted n (m .line)) m)
+
 abbrev pub LastAccepted : Type 0
-LastAccepted =
-    (a : Lent) (m : Model)
-    → outcome a m .refusal ≡ 12
-    → outcome a m .next ≡ withLine (withCounters (accepting (m .line .han .counters) (outcome a m .next .line .han .counters .accepted)) (m .line)) m
+LastAccepted = (a : Lent) (m : Model) → outcome a m .refusal ≡ 12 → Excepting a m (outcome a m .next)
 
 -- 12 and 13, to V: no envelope is opened and no counter advances, so the meter is unchanged
 abbrev pub PlainUnchanged : Type 0
@@ -149,16 +187,17 @@ PlainUnchanged =
     → listed (outcome a m .refusal) (12 ∷ 13 ∷ []) ≡ true
     → outcome a m .next ≡ m
 
--- 13: "for H, counters advance; a wrong proof ends the association"; the body is as it was
-pub data Advanced (l : Line) : Line → Type 0 where
-  counters : (n : ℕ) → Accepted n l → Advanced l (advanced (accepted n l))
-  association : (n : ℕ) → Accepted n l → Advanced l (advanced (accepted n (associates Han none l)))
+-- 13: "for H, counters advance; a wrong proof ends the association"; the last accepted is the counter of the envelope that
+-- opened, a request's or a proof's; the body is as it was
+pub data Advanced (a : Lent) (l : Line) : Line → Type 0 where
+  counters : {tag n : ℕ} {text : List ℕ} → Enclosed tag → Brings a l tag n text → Accepted n l → Advanced a l (advanced (accepted n l))
+  association : {n : ℕ} {text : List ℕ} → Brings a l 0xCB n text → Accepted n l → Advanced a l (advanced (accepted n (associates Han none l)))
 
 abbrev pub DeniedBody : Type 0
 DeniedBody = (a : Lent) (m : Model) → outcome a m .refusal ≡ 13 → outcome a m .next .body ≡ m .body
 
 abbrev pub DeniedLine : Type 0
-DeniedLine = (a : Lent) (m : Model) → SentBy Han a → outcome a m .refusal ≡ 13 → Advanced (m .line) (outcome a m .next .line)
+DeniedLine = (a : Lent) (m : Model) → SentBy Han a → outcome a m .refusal ≡ 13 → Advanced a (m .line) (outcome a m .next .line)
 
 -- What goes out.
 
