@@ -2,27 +2,27 @@
 use mathlib.Core.Path.{_≡_, refl, sym, ap, ap₂, _∙_}
 use mathlib.Core.Bool.{Bool, true, false, cond}
 use mathlib.Core.List.{List, [], _∷_, append-nil}
-use Prim.Native.Nat.{ℕ, suc, _+_, _≤_}
+use Prim.Native.Nat.{ℕ, _≤_}
 use native.Mathlib.Omega.{arith}
 use lib.Dec.{eqb}
-use lib.ListN.{length, take, drop, getD, replicate, length-drop}
+use lib.ListN.{length, drop, getD, replicate, length-drop}
 use lib.Seq.{take-all}
 use borrow.Author.Tests.{eq-eqb, ne-eqb, eqb-true}
 use Rattle.wire.specs.Wrote.{Wrote}
 use Rattle.wire.proofs.WroteLaws.{then, full}
-use Rattle.wire.proofs.NumberLaws.{Bytes}
 use Rattle.meter.specs.declared.Meter.{Meter}
 use Rattle.image.specs.declared.ImageRead.{ImageRead}
 use Rattle.image.specs.declared.Status.{Status}
 use Rattle.image.specs.declared.Status.the-variants.{Whole, WrongLength, WrongVersion, NoImage}
 use Rattle.image.specs.declared.Written.{Written}
 use Rattle.image.specs.declared.Written.the-variants.{Done, WrongBuffer}
-use Rattle.image.specs.Codec.{Codec, Put, Got}
+use Rattle.image.specs.Codec.{Put, Got}
 use Rattle.image.specs.Layout.{meterPart}
-use Rattle.image.specs.Image.{version, imageSize, imageOf, meterOf, blankMeter, statusOf, meterBy, readImage, Writes}
+use Rattle.image.specs.Image.{version, imageSize, imageOf, meterOf, blankMeter, statusOf, meterBy, readImage, Writes, ReadBack, WrittenBack}
 use Rattle.image.proofs.CodecLaws.{rest-bytes}
 use Rattle.image.proofs.Sizes.{sizes}
 use Rattle.image.proofs.LayoutLaws.{meter-lawful}
+use Rattle.image.proofs.HoldableLaws.{meter-holds}
 
 -- the tests of reading, one by one
 module _ (s : List ℕ) where
@@ -74,31 +74,38 @@ module _ (m : Meter) (h : meterPart .Holds m) where
       let v : meterPart .value b ≡ m = rw (append-nil b) at (meter-lawful .back m h []) in
       sym (read-by (imageOf m) Whole (all-passed (imageOf m) length-image refl t)) ∙ ap (λ (x : Meter). record { status = Whole; meter = x }) v
 
--- What was read is written: every image that is read comes back, byte for byte.
-module _ (s : List ℕ) (k : Bytes s) where
-  passed : statusOf s ≡ Whole → (length s ≡ imageSize) × (getD s 0 0 ≡ version) × (meterPart .taken (drop 1 s) ≡ true)
-  unfolding statusOf
-  passed e = go (eqb (length s) imageSize) (eqb (getD s 0 0) version) (meterPart .taken (drop 1 s)) refl refl refl e
-    where
-      go : (a b c : Bool) → eqb (length s) imageSize ≡ a → eqb (getD s 0 0) version ≡ b → meterPart .taken (drop 1 s) ≡ c → cond a (cond b (cond c Whole NoImage) WrongVersion) WrongLength ≡ Whole
-          → (length s ≡ imageSize) × (getD s 0 0 ≡ version) × (meterPart .taken (drop 1 s) ≡ true)
-      go true true true p q r e = (eqb-true _ _ p, eqb-true _ _ q, r)
-      go true true false p q r e = absurd (let z : _≡_ {A = ℕ} 0 1 = cc in omega arith)
-      go true false c p q r e = absurd (let z : _≡_ {A = ℕ} 0 1 = cc in omega arith)
-      go false b c p q r e = absurd (let z : _≡_ {A = ℕ} 0 1 = cc in omega arith)
+pub read-back : ReadBack
+read-back m h = image-back m (meter-holds m h)
 
-  pub image-again : statusOf s ≡ Whole → imageOf (meterOf s) ≡ s
-  unfolding imageOf meterOf imageSize
-  image-again e =
-      let p = passed e in
-      let n : length (drop 1 s) ≡ meterPart .size = rw (length-drop 1 s) (omega (arith, p .0)) in
-      let w : meterPart .bytes (meterPart .value (drop 1 s)) ≡ drop 1 s =
-      meter-lawful .again (drop 1 s) (rest-bytes 1 s k) (omega arith) (p .2) ∙ take-all (meterPart .size) (drop 1 s) (omega arith) in
-      ap₂ _∷_ (sym (p .1)) w ∙ front s (omega (arith, p .0))
-    where
-      front : (s : List ℕ) → 1 ≤ length s → getD s 0 0 ∷ drop 1 s ≡ s
-      front [] h = absurd (omega arith)
-      front (x ∷ xs) h = refl
+-- what an image that is read has passed
+pub record Passed (s : List ℕ) : Type 0 where
+  pub long : length s ≡ imageSize
+  pub current : getD s 0 0 ≡ version
+  pub taken : meterPart .taken (drop 1 s) ≡ true
+
+pub passed : (s : List ℕ) → statusOf s ≡ Whole → Passed s
+unfolding statusOf
+passed s e = go (eqb (length s) imageSize) (eqb (getD s 0 0) version) (meterPart .taken (drop 1 s)) refl refl refl e
+  where
+    go : (a b c : Bool) → eqb (length s) imageSize ≡ a → eqb (getD s 0 0) version ≡ b → meterPart .taken (drop 1 s) ≡ c → cond a (cond b (cond c Whole NoImage) WrongVersion) WrongLength ≡ Whole → Passed s
+    go true true true p q r e = record { long = eqb-true _ _ p; current = eqb-true _ _ q; taken = r }
+    go true true false p q r e = absurd (let z : _≡_ {A = ℕ} 0 1 = cc in omega arith)
+    go true false c p q r e = absurd (let z : _≡_ {A = ℕ} 0 1 = cc in omega arith)
+    go false b c p q r e = absurd (let z : _≡_ {A = ℕ} 0 1 = cc in omega arith)
+
+-- What was read is written: every image that is read comes back, byte for byte.
+pub written-back : WrittenBack
+unfolding imageOf meterOf imageSize
+written-back s k e =
+    let p = passed s e in
+    let n : length (drop 1 s) ≡ meterPart .size = rw (length-drop 1 s) (omega (arith, p .long)) in
+    let w : meterPart .bytes (meterPart .value (drop 1 s)) ≡ drop 1 s =
+    meter-lawful .again (drop 1 s) (rest-bytes 1 s (λ i. record { fits = k i })) (omega arith) (p .taken) ∙ take-all (meterPart .size) (drop 1 s) (omega arith) in
+    ap₂ _∷_ (sym (p .current)) w ∙ front s (omega (arith, p .long))
+  where
+    front : (s : List ℕ) → 1 ≤ length s → getD s 0 0 ∷ drop 1 s ≡ s
+    front [] h = absurd (omega arith)
+    front (x ∷ xs) h = refl
 
 -- Writing: a buffer of another length is left as it was; in one of its size there is the image.
 
@@ -119,3 +126,15 @@ image-written m {l} {p} {e} h u w =
       holds = rw (eq-eqb (length l) imageSize h) i;
       back = λ q. ap readImage i ∙ image-back m (w .holds);
     }
+
+-- what the caller learns, by the length of its buffer
+module _ {m : Meter} {l e : List ℕ} {r : Written} (w : Writes m l e r) where
+  pub done : length l ≡ imageSize → (r ≡ Done) × (e ≡ imageOf m)
+  done h =
+      let t = eq-eqb (length l) imageSize h in
+      (w .answer ∙ rw t, w .holds ∙ rw t)
+
+  pub kept : (length l ≡ imageSize → ⊥) → (r ≡ WrongBuffer) × (e ≡ l)
+  kept h =
+      let t = ne-eqb (length l) imageSize h in
+      (w .answer ∙ rw t, w .holds ∙ rw t)

@@ -3,4 +3,5 @@ pub mod LoopLaws
 pub mod Sizes
 pub mod LayoutLaws
 pub mod TakenLaws
+pub mod HoldableLaws
 pub mod ImageLaws

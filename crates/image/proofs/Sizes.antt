@@ -1,7 +1,6 @@
 -- How many bytes each part takes: worked out from the layout, once.
 use mathlib.Core.Path.{_≡_, refl}
-use Prim.Native.Nat.{ℕ}
-use Rattle.image.specs.Codec.{Codec, fields, flag, phase}
+use Rattle.image.specs.Codec.{fields, flag, phase}
 use Rattle.image.specs.Layout.{partyPart, countersPart, cipherPartyPart, linePart, namePart, clockPart, registerPart, registersPart, columnsPart, rowPart, rowsPart, bodyPart, meterPart}
 use Rattle.image.specs.Image.{imageSize}
 

@@ -5,7 +5,7 @@ use mathlib.Core.List.{List}
 use Prim.Native.Nat.{ℕ}
 use lib.ListN.{drop}
 use lib.Seq.{drop-drop}
-use Rattle.image.specs.Codec.{Codec, fields, flag, number, allTaken}
+use Rattle.image.specs.Codec.{fields, flag, number, allTaken}
 use Rattle.image.specs.Layout.{partyPart, countersPart, cipherPartyPart, namePart, clockPart, registerPart, registersPart, columnsPart, rowPart, rowsPart, bodyPart}
 use Rattle.image.proofs.LoopLaws.{all-taken}
 

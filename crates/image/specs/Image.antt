@@ -1,18 +1,18 @@
 -- The image of a meter: a version byte, then the meter by its layout; and what writing and reading one promise, for every
 -- buffer and every byte string.
 use mathlib.Core.Path.{_≡_}
-use mathlib.Core.Bool.{Bool, true, false, cond}
+use mathlib.Core.Bool.{true, cond}
 use mathlib.Core.List.{List, _∷_}
-use Prim.Native.Nat.{ℕ, _+_}
+use Prim.Native.Nat.{ℕ, _+_, _<_}
 use lib.Dec.{eqb}
 use lib.ListN.{length, drop, getD, replicate}
 use Rattle.meter.specs.declared.Meter.{Meter}
+use Rattle.meter.specs.Unsound.{holdable}
 use Rattle.image.specs.declared.Written.{Written}
 use Rattle.image.specs.declared.Written.the-variants.{Done, WrongBuffer}
 use Rattle.image.specs.declared.Status.{Status}
 use Rattle.image.specs.declared.Status.the-variants.{Whole, WrongLength, WrongVersion, NoImage}
 use Rattle.image.specs.declared.ImageRead.{ImageRead}
-use Rattle.image.specs.Codec.{Codec}
 use Rattle.image.specs.Layout.{meterPart}
 
 -- the version byte of this layout
@@ -57,3 +57,13 @@ pub record Writes (m : Meter) (l e : List ℕ) (r : Written) : Type 0 where
   pub answer : r ≡ cond (eqb (length l) imageSize) Done WrongBuffer
   pub holds : e ≡ cond (eqb (length l) imageSize) (imageOf m) l
   pub back : r ≡ Done → readImage e ≡ record { status = Whole; meter = m }
+
+-- What is proved of images.
+
+-- every meter that the struct can hold is read back from its image
+abbrev pub ReadBack : Type 0
+ReadBack = (m : Meter) → holdable m ≡ true → readImage (imageOf m) ≡ record { status = Whole; meter = m }
+
+-- every image that is read is written back, byte for byte: no byte of it is free
+abbrev pub WrittenBack : Type 0
+WrittenBack = (s : List ℕ) → ((i : ℕ) → getD s i 0 < 0x100) → statusOf s ≡ Whole → imageOf (meterOf s) ≡ s

@@ -1,7 +1,5 @@
 -- The layout of a meter: each struct's fields in their order, arrays in full whatever a count says. docs/IMAGE.md has it as a
 -- table of places.
-use mathlib.Core.List.{List}
-use Prim.Native.Nat.{ℕ}
 use Rattle.model.specs.declared.Name.{Name}
 use Rattle.model.specs.declared.Clock.{Clock}
 use Rattle.model.specs.declared.Register.{Register}

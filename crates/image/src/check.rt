@@ -10,6 +10,9 @@ ghost use lib.ListN.{drop, length};
 ghost use Rattle.image.specs.Codec.{flag, many, phase};
 ghost use Rattle.image.specs.Layout.{bodyPart, linePart, meterPart, partyPart, registerPart};
 
+// How far into the body the first register stands.
+const FIRST_REGISTER: usize = 42;
+
 pub fn meter_taken(s: &[u8], at: usize) -> bool
     requires { ⌜ at + meterPart .size ≤ length (now s) ⌝ }
     ensures { λ r. ⌜ r ≡ meterPart .taken (drop at (now (s .entry))) ⌝ }
@@ -50,7 +53,7 @@ fn body_taken(s: &[u8], at: usize) -> bool
     requires { ⌜ at + bodyPart .size ≤ length (now s) ⌝ }
     ensures { λ r. ⌜ r ≡ bodyPart .taken (drop at (now (s .entry))) ⌝ }
 {
-    each_register_taken(s, at + 42)
+    each_register_taken(s, at + FIRST_REGISTER)
 }
 
 fn each_register_taken(s: &[u8], at: usize) -> bool

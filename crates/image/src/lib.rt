@@ -71,7 +71,7 @@ pub fn read_image(s: &[u8]) -> ImageRead
 fn refused(status: Status) -> ImageRead
     ensures { λ r. ⌜ (r .status ≡ status) × (r .meter ≡ blankMeter) ⌝ }
 {
-    let zeros = [0u8; 1727];
+    let zeros = [0u8; SIZE - 1];
     let meter = read::meter_at(&zeros, 0);
     ImageRead { status, meter }
 }

@@ -1,6 +1,5 @@
 -- `image::write_image` meets its contract.
-use mathlib.Core.Path.{_≡_, refl, sym, _∙_}
-use Prim.Native.Nat.{ℕ}
+use mathlib.Core.Path.{sym, _∙_}
 use native.Mathlib.Omega.{arith}
 use Rattle.image.proofs.Sizes.{sizes}
 use Rattle.image.proofs.ImageLaws.{not-written, image-written}

@@ -3,7 +3,6 @@ use native.Mathlib.Omega.{arith}
 use lib.Seq.{drop-drop}
 use Rattle.image.proofs.TakenLaws.{body-taken}
 use Rattle.image.proofs.Sizes.{sizes}
-use borrow.Author.Needs.{needs}
 use Rattle.image.proofs.check.body_taken.Statement.{statement}
 use Rattle.image.proofs.check.body_taken.Tie as tie
 

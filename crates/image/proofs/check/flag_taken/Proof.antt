@@ -3,7 +3,6 @@ use native.Mathlib.Omega.{arith}
 use Rattle.image.specs.Codec.{flag}
 use Rattle.image.proofs.CodecLaws.{at-front}
 use Rattle.image.proofs.Sizes.{sizes}
-use borrow.Author.Needs.{needs}
 use Rattle.image.proofs.check.flag_taken.Statement.{statement}
 use Rattle.image.proofs.check.flag_taken.Tie as tie
 

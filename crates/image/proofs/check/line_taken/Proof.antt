@@ -7,7 +7,6 @@ use Rattle.image.specs.Codec.{fields}
 use Rattle.image.specs.Layout.{linePart}
 use Rattle.image.proofs.Sizes.{sizes}
 use Rattle.image.proofs.TakenLaws.{cipher-party-taken}
-use borrow.Author.Needs.{needs}
 use Rattle.image.proofs.check.line_taken.Statement.{statement}
 use Rattle.image.proofs.check.line_taken.Tie as tie
 

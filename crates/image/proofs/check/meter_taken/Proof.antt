@@ -6,7 +6,6 @@ use borrow.Author.Tests.{not-true, not-false}
 use Rattle.image.specs.Codec.{fields}
 use Rattle.image.specs.Layout.{meterPart}
 use Rattle.image.proofs.Sizes.{sizes}
-use borrow.Author.Needs.{needs}
 use Rattle.image.proofs.check.meter_taken.Statement.{statement}
 use Rattle.image.proofs.check.meter_taken.Tie as tie
 

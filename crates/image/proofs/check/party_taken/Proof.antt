@@ -7,7 +7,6 @@ use borrow.Author.Tests.{not-true, not-false}
 use Rattle.image.specs.Codec.{fields}
 use Rattle.image.specs.Layout.{partyPart}
 use Rattle.image.proofs.Sizes.{sizes}
-use borrow.Author.Needs.{needs}
 use Rattle.image.proofs.check.party_taken.Statement.{statement}
 use Rattle.image.proofs.check.party_taken.Tie as tie
 

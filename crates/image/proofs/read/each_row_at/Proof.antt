@@ -1,8 +1,6 @@
 -- `image::read::each_row_at` meets its contract: the elements so far are read.
-use mathlib.Core.Path.{refl}
-use Prim.Native.Nat.{_+_, _*_, _-_, _≤_}
+use Prim.Native.Nat.{_-_}
 use native.Mathlib.Omega.{arith}
-use lib.ListN.{length, length-replicate}
 use Rattle.image.specs.Layout.{rowPart}
 use Rattle.image.proofs.LoopLaws.{Getting, getting-none, getting-room, getting-more, getting-all}
 use Rattle.image.proofs.Sizes.{sizes}

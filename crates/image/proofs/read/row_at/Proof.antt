@@ -4,7 +4,6 @@ use native.Mathlib.Omega.{arith}
 use Rattle.image.specs.Layout.{rowPart}
 use Rattle.image.proofs.CodecLaws.{got-both, got-fields}
 use Rattle.image.proofs.Sizes.{sizes}
-use borrow.Author.Needs.{needs}
 use Rattle.image.proofs.read.row_at.Statement.{statement}
 use Rattle.image.proofs.read.row_at.Tie as tie
 
