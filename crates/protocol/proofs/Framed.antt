@@ -1,13 +1,14 @@
--- What goes out is a frame: its layout is accepted by every side, its addresses are exchanged, and it is no longer than the
--- least reply room. `Answers` of specs/Outcomes, proved.
-use mathlib.Core.Path.{_≡_, refl, ap}
+-- What goes out is a frame: its layout passes at either client, its addresses are exchanged, it is no longer than the least reply
+-- room, and with an APDU it passes every test of the client that it answers. `Answers` of specs/Outcomes, proved.
+use mathlib.Core.Path.{_≡_, refl, sym, ap, _∙_}
 use mathlib.Core.Bool.{Bool, true, false, cond, not, _&&_, false≢true}
 use mathlib.Core.List.{List, [], _∷_, _++_}
 use Prim.Native.Nat.{ℕ, _%_, _≤_, _<_}
 use native.Mathlib.Omega.{arith}
 use lib.Dec.{eqb, ltb}
 use lib.ListN.{length, take, drop, length-append}
-use borrow.Author.Tests.{eqb-true, eqb-false, ltb-true}
+use borrow.Author.Tests.{eqb-true, eqb-false, ltb-true, not-false}
+use Rattle.model.specs.declared.Client.{Client}
 use Rattle.model.specs.declared.Client.the-variants.{Verification, Han}
 use Rattle.model.specs.Limits.{longestSent, replyRoom, apduRoom, textRoom}
 use Rattle.model.specs.Periods.{listed}
@@ -20,15 +21,16 @@ use Rattle.hdlc.specs.declared.Head.{Head}
 use Rattle.hdlc.specs.declared.Frame.{Frame}
 use Rattle.hdlc.specs.declared.Frame.the-variants.{Unanswered, Rejected, LinkUp, LinkDown, Apdu}
 use Rattle.hdlc.specs.declared.FrameTest.{FrameTest}
-use Rattle.hdlc.specs.declared.FrameTest.the-variants.{EvenAddress}
+use Rattle.hdlc.specs.declared.FrameTest.the-variants.{EvenAddress, WrongDestination}
 use Rattle.hdlc.specs.Layout.{ui, ua, dm, frmr, byte, headOf, frameOf}
-use Rattle.hdlc.specs.Tests.{Side, AllPass, none, more, fails, meterSide, frameTests, numberOf, replyLlc}
+use Rattle.hdlc.specs.Addresses.{meterAddress, addressOf}
+use Rattle.hdlc.specs.Tests.{Side, AllPass, FirstOf, none, more, fails, meterSide, clientSide, frameTests, numberOf, replyLlc}
 use Rattle.hdlc.specs.Reading.{readFrame}
-use Rattle.hdlc.specs.Replies.{replyFrame, apduFrame, rejectCode}
+use Rattle.hdlc.specs.Replies.{replyFrame, apduFrame, frmrFrame, rejectCode}
 use Rattle.hdlc.proofs.LayoutLaws.{length-plain, length-full}
-use Rattle.hdlc.proofs.TestLaws.{passes-in}
+use Rattle.hdlc.proofs.TestLaws.{all-pass, passes-in}
 use Rattle.hdlc.proofs.ReadingLaws.{Told, read-told}
-use Rattle.hdlc.proofs.RoundTrip.{ReadBack, read-back}
+use Rattle.hdlc.proofs.RoundTrip.{ReadBack, read-back, reply-passes}
 use Rattle.cosem.specs.declared.Exception.{Exception}
 use Rattle.cosem.specs.declared.Exception.the-variants.{ServiceNotAllowed, ServiceUnknown}
 use Rattle.cosem.specs.Tags.{exceptionBytes}
@@ -38,7 +40,7 @@ use Rattle.acse.proofs.Layouts.{length-rejected}
 use Rattle.counters.specs.Advance.{taken}
 use Rattle.counters.specs.Window.{accepting}
 use Rattle.envelope.specs.Layout.{sealedEnvelope}
-use Rattle.envelope.proofs.CloseLaws.{length-envelope, envelope-fits}
+use Rattle.envelope.proofs.CloseLaws.{length-envelope, envelope-size, envelope-fits}
 use Rattle.protocol.specs.Clients.{selectiveIn, lentKeys}
 use Rattle.protocol.specs.Rulings.{Ruling, decision}
 use Rattle.protocol.specs.Decide.{wrap, accepted, advanced, disproved, heard, around, seal, secretsOf, ruled, p2}
@@ -46,7 +48,7 @@ use Rattle.protocol.specs.Outcomes.{Enclosed, get, action, Framed, Answe
 use Rattle.protocol.proofs.Lengths.{aroundLength, length-around}
 use Rattle.protocol.proofs.Outcomes.{FrameNumber, four, five, eight, nine, frame-number, row-lent}
 use Rattle.protocol.proofs.Ruled as by
-use Rattle.protocol.proofs.Turns.{turned-fits}
+use Rattle.protocol.proofs.Turns.{turned-some, turned-fits}
 
 -- Addresses: a frame that is answered has passed the tests of refusal 4, and so its addresses are odd.
 
@@ -87,28 +89,19 @@ stretch-passes r f (x ∷ xs) ys (b ∷ before) after t e k h (more _ q p) =
 abbrev firstEight : List FrameTest
 firstEight = take 8 frameTests
 
--- something goes out for the frame
-abbrev IsAnswered : Frame → Type 0
-IsAnswered (Unanswered t) = ⊥
-IsAnswered (Rejected t h) = Unit {0}
-IsAnswered (LinkUp c h i) = Unit {0}
-IsAnswered (LinkDown c h) = Unit {0}
-IsAnswered (Apdu c h start end) = Unit {0}
-
 module _ (f : List ℕ) where
   odd-all : AllPass meterSide f frameTests → Odd f
   odd-all p = odd-passed f (passes-in meterSide f (take 7 frameTests) (drop 8 frameTests) EvenAddress p)
 
-  odd-told : (x : Frame) → Told f x → IsAnswered x → Odd f
-  odd-told (Unanswered t) told n = absurd n
-  odd-told (Rejected t g) told n =
-      let first = told .1 in
+  odd-rejected : (t : FrameTest) → 8 ≤ numberOf t → FirstOf meterSide frameTests f t → Odd f
+  odd-rejected t h first =
       odd-passed f
       (passes-in meterSide f (take 7 frameTests) [] EvenAddress
-      (stretch-passes meterSide f firstEight (drop 8 frameTests) (first .before) (first .after) t (first .order) refl (told .0) (first .passed)))
-  odd-told (LinkUp c g i) told n = odd-all (told .0 .passes)
-  odd-told (LinkDown c g) told n = odd-all (told .0 .passes)
-  odd-told (Apdu c g start end) told n = odd-all (told .0 .passes)
+      (stretch-passes meterSide f firstEight (drop 8 frameTests) (first .before) (first .after) t (first .order) refl h (first .passed)))
+
+  -- one that passes every test is for the meter
+  meter-all : AllPass meterSide f frameTests → byte f 3 ≡ meterAddress
+  meter-all p = eqb-true (byte f 3) meterAddress (not-false _ (passes-in meterSide f (take 12 frameTests) (drop 13 frameTests) WrongDestination p))
 
 -- Replies.
 
@@ -117,42 +110,59 @@ unfolding longestSent replyRoom
 framed-length d s c [] h = omega (arith, length-plain d s c)
 framed-length d s c (x ∷ xs) h = omega (arith, length-full d s c (x ∷ xs) (omega arith))
 
-length-exception : (e : Exception) → length (exceptionBytes e) ≤ apduRoom longestSent
-length-exception ServiceNotAllowed = omega (arith, apdu-room)
-length-exception ServiceUnknown = omega (arith, apdu-room)
+length-exception : (e : Exception) → length (exceptionBytes e) ≡ 3
+length-exception ServiceNotAllowed = refl
+length-exception ServiceUnknown = refl
 
 three-fit : 3 ≤ longestSent
 unfolding longestSent
 three-fit = omega arith
 
 module _ (f : List ℕ) (odd : Odd f) where
-  framed-reply : (c : ℕ) (i : List ℕ) → length i ≤ longestSent → Framed f (replyFrame (headOf f) c i)
+  framed-reply : (k : ℕ) (i : List ℕ) → length i ≤ longestSent
+      → ((c : Client) → byte f 4 ≡ addressOf c → k ≡ ui → AllPass (clientSide c) (replyFrame (headOf f) k i) frameTests)
+      → Framed f (replyFrame (headOf f) k i)
   unfolding longestSent
-  framed-reply c i h =
-      let back : (r : Side) → ReadBack r (replyFrame (headOf f) c i) (byte f 4) (byte f 3) c i = λ r. read-back r (byte f 4) (byte f 3) c i (odd .source) (odd .destination) (omega arith) in
+  framed-reply k i h whole =
+      let back : (r : Side) → ReadBack r (replyFrame (headOf f) k i) (byte f 4) (byte f 3) k i = λ r. read-back r (byte f 4) (byte f 3) k i (odd .source) (odd .destination) (omega arith) in
+      let control : byte (replyFrame (headOf f) k i) 5 ≡ k = ap (λ (h : Head). h .control) (back meterSide .head) in
       record {
-        layout = λ r. back r .passes;
+        layout = λ c. back (clientSide c) .passes;
+        carries = λ c to e. whole c to (sym control ∙ e);
         destination = ap (λ (h : Head). h .destination) (back meterSide .head);
         source = ap (λ (h : Head). h .source) (back meterSide .head);
-        fits = framed-length (byte f 4) (byte f 3) c i h;
+        fits = framed-length (byte f 4) (byte f 3) k i h;
       }
 
-  framed-apdu : (bs : List ℕ) → length bs ≤ apduRoom longestSent → Framed f (apduFrame (headOf f) bs)
+  framed-bare : (k : ℕ) (i : List ℕ) → length i ≤ longestSent → (k ≡ ui → ⊥) → Framed f (replyFrame (headOf f) k i)
+  framed-bare k i h other = framed-reply k i h (λ c to e. absurd (other e))
+
+  framed-reject : (t : FrameTest) → Framed f (frmrFrame (headOf f) t)
+  framed-reject t = framed-bare frmr (headOf f .control ∷ 0x00 ∷ rejectCode t ∷ []) three-fit (λ e. omega arith)
+
+-- with an APDU, to a frame for the meter
+module _ (f : List ℕ) (odd : Odd f) (meter : byte f 3 ≡ meterAddress) where
+  framed-apdu : (bs : List ℕ) → 0 < length bs → length bs ≤ apduRoom longestSent → Framed f (apduFrame (headOf f) bs)
   unfolding longestSent apduRoom
-  framed-apdu bs h = framed-reply ui (replyLlc ++ bs) (omega (arith, length-append replyLlc bs))
+  framed-apdu bs some h =
+      framed-reply f odd ui (replyLlc ++ bs) (omega (arith, length-append replyLlc bs))
+      (λ c to e. all-pass (clientSide c) (apduFrame (headOf f) bs) frameTests (reply-passes c (headOf f) to meter bs some (omega arith)))
 
   -- the body's answer, to V and to H
-  framed-plain : (l : Line) (ak text : List ℕ) → length text ≤ textRoom longestSent → Framed f (seal l (wrap ak (headOf f) 0xC0) text)
+  framed-plain : (l : Line) (ak text : List ℕ) → 0 < length text → length text ≤ textRoom longestSent → Framed f (seal l (wrap ak (headOf f) 0xC0) text)
   unfolding seal aroundLength
-  framed-plain l ak text h =
-      framed-apdu (around l (wrap ak (headOf f) 0xC0) text) (omega (arith, apdu-room, text-room, length-around l (wrap ak (headOf f) 0xC0) text))
+  framed-plain l ak text some h =
+      let n = length-around l (wrap ak (headOf f) 0xC0) text in
+      framed-apdu (around l (wrap ak (headOf f) 0xC0) text) (omega arith) (omega (arith, apdu-room, text-room))
 
   framed-inside : (l : Line) (ak text : List ℕ) {tag : ℕ} → Enclosed tag → length text ≤ textRoom longestSent → Framed f (seal l (wrap ak (headOf f) tag) text)
   unfolding seal aroundLength
   framed-inside l ak text get h =
-      framed-apdu (around l (wrap ak (headOf f) 0xD0) text) (omega (arith, envelope-fits (length text) h, length-around l (wrap ak (headOf f) 0xD0) text))
+      let n = length-around l (wrap ak (headOf f) 0xD0) text in
+      framed-apdu (around l (wrap ak (headOf f) 0xD0) text) (omega (arith, envelope-size (length text))) (omega (arith, envelope-fits (length text) h))
   framed-inside l ak text action h =
-      framed-apdu (around l (wrap ak (headOf f) 0xD3) text) (omega (arith, envelope-fits (length text) h, length-around l (wrap ak (headOf f) 0xD3) text))
+      let n = length-around l (wrap ak (headOf f) 0xD3) text in
+      framed-apdu (around l (wrap ak (headOf f) 0xD3) text) (omega (arith, envelope-size (length text))) (omega (arith, envelope-fits (length text) h))
 
 abbrev answeredNumbers : List ℕ
 answeredNumbers = 0 ∷ 8 ∷ 9 ∷ 10 ∷ 11 ∷ 12 ∷ 13 ∷ []
@@ -173,34 +183,39 @@ module _ (a : Lent) (m : Model) (title : length (m .line .title) ≡ 8) (challen
   abbrev Sends : Outcome → Type 0
   Sends o = listed (o .refusal) answeredNumbers ≡ true → Framed f (o .sent)
 
-  framed-ruled : Odd f → {r : Ruling} → by.Ruled l (secretsOf a) f r → Sends (decided p2 (decision r) m)
+  framed-ruled : Odd f → byte f 3 ≡ meterAddress → {r : Ruling} → by.Ruled l (secretsOf a) f r → Sends (decided p2 (decision r) m)
   unfolding disproved
-  framed-ruled odd (by.unheard t h) e = absurd (unheard-number (frame-number t) h e)
-  framed-ruled odd by.unopened e = absurd (false≢true e)
-  framed-ruled odd (by.drops from o w) e = absurd (false≢true e)
-  framed-ruled odd (by.rejects t h) e = framed-reply f odd frmr (headOf f .control ∷ 0x00 ∷ rejectCode t ∷ []) three-fit
-  framed-ruled odd (by.noLink t n) e = framed-reply f odd dm [] (omega arith)
-  framed-ruled odd (by.departs c from) e = framed-apdu f odd (rejectedAare c) (omega (arith, apdu-room, length-rejected c))
-  framed-ruled odd (by.excepts t x n) e = framed-apdu f odd (exceptionBytes x) (length-exception x)
-  framed-ruled odd (by.exceptsInside t x counter n from o w) e = framed-apdu f odd (exceptionBytes x) (length-exception x)
-  framed-ruled odd (by.disproves invoke counter from o w) e =
+  framed-ruled odd meter (by.unheard t h) e = absurd (unheard-number (frame-number t) h e)
+  framed-ruled odd meter by.unopened e = absurd (false≢true e)
+  framed-ruled odd meter (by.drops from o w) e = absurd (false≢true e)
+  framed-ruled odd meter (by.rejects t h) e = framed-reject f odd t
+  framed-ruled odd meter (by.noLink t n) e = framed-bare f odd dm [] (omega arith) (λ q. omega arith)
+  framed-ruled odd meter (by.departs c from) e = let n = length-rejected c in framed-apdu f odd meter (rejectedAare c) (omega arith) (omega (arith, apdu-room))
+  framed-ruled odd meter (by.excepts t x n) e = let n = length-exception x in framed-apdu f odd meter (exceptionBytes x) (omega arith) (omega (arith, apdu-room))
+  framed-ruled odd meter (by.exceptsInside t x counter n from o w) e = let n = length-exception x in framed-apdu f odd meter (exceptionBytes x) (omega arith) (omega (arith, apdu-room))
+  framed-ruled odd meter (by.disproves invoke counter from o w) e =
       let number = taken (accepting (l .han .counters) counter) .number in
       let text = actionAnswer invoke (denied 250) in
-      framed-apdu f odd (sealedEnvelope (lentKeys (secretsOf a)) (l .title) 0xCF number text)
-      (omega (arith, length-envelope (lentKeys (secretsOf a)) (l .title) 0xCF number text, envelope-fits 5 (omega (arith, text-room))))
-  framed-ruled odd (by.links after) e = framed-reply f odd ua [] (omega arith)
-  framed-ruled odd (by.tells bs after fits) e = framed-apdu f odd bs (fits title challenge)
-  framed-ruled odd (by.serves s q from) e =
-      framed-plain f odd l (a .ak) _ (turned-fits (requested Verification (selectiveIn Verification l) s q) (m .body))
-  framed-ruled odd (by.servesInside tag s q counter k from o w) e =
-      framed-inside f odd (advanced (accepted counter l)) (a .ak) _ k (turned-fits (requested Han (selectiveIn Han l) s q) (m .body))
+      let n = length-envelope (lentKeys (secretsOf a)) (l .title) 0xCF number text in
+      framed-apdu f odd meter (sealedEnvelope (lentKeys (secretsOf a)) (l .title) 0xCF number text) (omega (arith, envelope-size 5))
+      (omega (arith, envelope-fits 5 (omega (arith, text-room))))
+  framed-ruled odd meter (by.links after) e = framed-bare f odd ua [] (omega arith) (λ q. omega arith)
+  framed-ruled odd meter (by.tells bs after fits) e = framed-apdu f odd meter bs (fits title challenge .0) (fits title challenge .1)
+  framed-ruled odd meter (by.serves s q from) e =
+      let r = requested Verification (selectiveIn Verification l) s q in
+      framed-plain f odd meter l (a .ak) _ (turned-some r (m .body)) (turned-fits r (m .body))
+  framed-ruled odd meter (by.servesInside tag s q counter k from o w) e =
+      framed-inside f odd meter (advanced (accepted counter l)) (a .ak) _ k (turned-fits (requested Han (selectiveIn Han l) s q) (m .body))
+
+  framed-passed : AllPass meterSide f frameTests → {r : Ruling} → by.Ruled l (secretsOf a) f r → Sends (decided p2 (decision r) m)
+  framed-passed p r = framed-ruled (odd-all f p) (meter-all f p) r
 
   framed-heard : (x : Frame) → Told f x → Sends (decided p2 (decision (heard l (secretsOf a) f x)) m)
   framed-heard (Unanswered t) told = λ e. absurd (unheard-number (frame-number t) (told .0) e)
-  framed-heard (Rejected t g) told = framed-ruled (odd-told f (Rejected t g) told tt) (by.rules-heard l (secretsOf a) f (Rejected t g) told)
-  framed-heard (LinkUp c g i) told = framed-ruled (odd-told f (LinkUp c g i) told tt) (by.rules-heard l (secretsOf a) f (LinkUp c g i) told)
-  framed-heard (LinkDown c g) told = framed-ruled (odd-told f (LinkDown c g) told tt) (by.rules-heard l (secretsOf a) f (LinkDown c g) told)
-  framed-heard (Apdu c g start end) told = framed-ruled (odd-told f (Apdu c g start end) told tt) (by.rules-heard l (secretsOf a) f (Apdu c g start end) told)
+  framed-heard (Rejected t g) told = λ e. rw (told .2) (framed-reject f (odd-rejected f t (told .0) (told .1)) t)
+  framed-heard (LinkUp c g i) told = framed-passed (told .0 .passes) (by.rules-heard l (secretsOf a) f (LinkUp c g i) told)
+  framed-heard (LinkDown c g) told = framed-passed (told .0 .passes) (by.rules-heard l (secretsOf a) f (LinkDown c g) told)
+  framed-heard (Apdu c g start end) told = framed-passed (told .0 .passes) (by.rules-heard l (secretsOf a) f (Apdu c g start end) told)
 
 -- where refusal 2 is not met, the challenge has 8 bytes
 lent-challenge : (a : Lent) → lentRefusal a ≡ 0 → length (a .challenge) ≡ 8

@@ -50,7 +50,7 @@ use Rattle.counters.specs.Window.{inWindow, accepting}
 use Rattle.envelope.specs.Layout.{sealedEnvelope}
 use Rattle.envelope.specs.Opening.{Opened, fails, opens, opened}
 use Rattle.envelope.specs.Challenge.{proofValue}
-use Rattle.envelope.proofs.CloseLaws.{length-envelope, envelope-fits}
+use Rattle.envelope.proofs.CloseLaws.{length-envelope, envelope-size, envelope-fits}
 use Rattle.envelope.proofs.ProofLaws.{length-proof}
 use Rattle.protocol.specs.declared.Secrets.{Secrets}
 use Rattle.protocol.specs.Clients.{peer, associates, agreedIn, clientChallenge, selectiveIn, lentKeys, dedicatedKeys, isPending, isAssociated, permitted, bitAgreed, isUnknown}
@@ -66,9 +66,9 @@ From c f = senderOf (byte f 4) ≡ Known c
 abbrev pub InWindow : Line → ℕ → Type 0
 InWindow l counter = inWindow (l .han .counters .accepted) counter ≡ true
 
--- an APDU that fits a frame, where the title and the challenge that it may hold have 8 bytes
+-- an APDU, of some bytes, that fits a frame, where the title and the challenge that it may hold have 8 bytes
 abbrev pub Fits : Line → Secrets → List ℕ → Type 0
-Fits l a bs = length (l .title) ≡ 8 → length (a .challenge) ≡ 8 → length bs ≤ apduRoom longestSent
+Fits l a bs = length (l .title) ≡ 8 → length (a .challenge) ≡ 8 → (0 < length bs) × (length bs ≤ apduRoom longestSent)
 
 -- A frame f on the line l, by the rows of the table. Of an accepted frame that the line answers, it tells what goes out and that
 -- it fits.
@@ -144,7 +144,9 @@ module _ (l : Line) (a : Secrets) (f : List ℕ) where
   rules-plain proposed =
       let agreed = common proposed (offered Verification) in
       tells (plainAare Verification (l .title) agreed) _
-      (λ eight _. omega (arith, apdu-room, length-plain Verification (l .title) eight agreed (length-common proposed (offered Verification))))
+      (λ eight _.
+      let n = length-plain Verification (l .title) eight agreed (length-common proposed (offered Verification)) in
+      (omega arith, omega (arith, apdu-room)))
 
   rules-ciphered : (client key proposed : List ℕ) (counter : ℕ) → Is (acceptedCiphered l a h client key proposed counter)
   unfolding acceptedCiphered
@@ -153,13 +155,11 @@ module _ (l : Line) (a : Secrets) (f : List ℕ) where
       let number = taken (accepting (l .han .counters) counter) .number in
       let response = sealedEnvelope (lentKeys a) (l .title) 0x28 number (initiateResponse agreed) in
       tells (cipheredAareHead Han (l .title) (a .challenge) ++ response) _
-      (λ eight challenge. omega (
-        arith,
-        apdu-room,
-        length-append (cipheredAareHead Han (l .title) (a .challenge)) response,
-        length-envelope (lentKeys a) (l .title) 0x28 number (initiateResponse agreed),
-        length-head Han (l .title) eight (a .challenge) agreed challenge (length-common proposed (offered Han)),
-      ))
+      (λ eight challenge.
+      let whole = length-append (cipheredAareHead Han (l .title) (a .challenge)) response in
+      let n = length-envelope (lentKeys a) (l .title) 0x28 number (initiateResponse agreed) in
+      let k = length-head Han (l .title) eight (a .challenge) agreed challenge (length-common proposed (offered Han)) in
+      (omega arith, omega (arith, apdu-room)))
 
   module _ (from : From Han f) where
     rules-initiated : (client text : List ℕ) (counter : ℕ) (r : InitiateRequest) → Is (initiated l a h client text counter r)
@@ -201,7 +201,9 @@ module _ (l : Line) (a : Secrets) (f : List ℕ) where
         let start : List ℕ = 0xC7 ∷ 0x01 ∷ invoke ∷ 0x00 ∷ 0x01 ∷ 0x00 ∷ [] in
         let size : length (start ++ proof) ≡ 25 = omega (arith, length-append start proof, length-proof k (l .title) (clientChallenge (l .han .peer .association)) (first .number)) in
         tells (sealedEnvelope k (l .title) 0xCF number (start ++ proof)) _
-        (λ _ _. omega (arith, length-envelope k (l .title) 0xCF number (start ++ proof), envelope-fits (length (start ++ proof)) (omega (arith, text-room))))
+        (λ _ _.
+        let n = length-envelope k (l .title) 0xCF number (start ++ proof) in
+        (omega (arith, envelope-size (length (start ++ proof))), omega (arith, envelope-fits (length (start ++ proof)) (omega (arith, text-room)))))
 
     rules-challenged : (counter : ℕ) (text : List ℕ) (q : Asked) → Opens a f l 0xCB counter text → InWindow l counter → Is (challenged l a h counter text q)
     unfolding challenged
@@ -224,7 +226,7 @@ module _ (l : Line) (a : Secrets) (f : List ℕ) where
   rules-released : (c : Client) → Is (released l c h s)
   unfolding released
   rules-released c =
-      ruled-if (isRelease s) _ _ (λ _. tells releaseResponse _ (λ _ _. omega (arith, apdu-room))) (λ _. excepts malformedApdu ServiceUnknown refl)
+      ruled-if (isRelease s) _ _ (λ _. tells releaseResponse _ (λ _ _. (omega arith, omega (arith, apdu-room)))) (λ _. excepts malformedApdu ServiceUnknown refl)
 
   rules-asked : From Verification f → (r : Reading) → Is (asked l a Verification h s r)
   rules-asked from Malformed = excepts malformedApdu ServiceUnknown refl

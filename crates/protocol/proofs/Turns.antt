@@ -2,7 +2,7 @@
 use mathlib.Core.Path.{_≡_, refl}
 use mathlib.Core.Bool.{Bool, true, false, cond, not, _&&_}
 use mathlib.Core.List.{List}
-use Prim.Native.Nat.{ℕ, _≤_}
+use Prim.Native.Nat.{ℕ, _≤_, _<_}
 use native.Mathlib.Omega.{arith}
 use lib.Dec.{eqb, leb}
 use lib.ListN.{length}
@@ -70,6 +70,23 @@ read-fits invoke (denied c) h = omega (arith, text-room)
 action-fits : (invoke : ℕ) (r : Result) → length (actionAnswer invoke r) ≤ textRoom longestSent
 action-fits invoke (granted d) = omega (arith, text-room)
 action-fits invoke (denied c) = omega (arith, text-room)
+
+-- and some bytes it has
+read-some : (invoke : ℕ) (r : Result) → 0 < length (getAnswer invoke r)
+read-some invoke (granted d) = omega arith
+read-some invoke (denied c) = omega arith
+
+action-some : (invoke : ℕ) (r : Result) → 0 < length (actionAnswer invoke r)
+action-some invoke (granted d) = omega arith
+action-some invoke (denied c) = omega arith
+
+pub turned-some : (q : Request) (b : Body) → 0 < length (turned q b .bytes)
+unfolding turned
+turned-some q b = go (meaning (q .client) (q .name) (b .store .registers)) (q .service)
+  where
+    go : (w : Meaning) (v : Service) → 0 < length (answered q b w v .bytes)
+    go w (get a s) = read-some (q .invoke) (attributeRead q a s b w)
+    go w (action k v) = action-some (q .invoke) (methodInvoked q k v w)
 
 pub turned-fits : (q : Request) (b : Body) → length (turned q b .bytes) ≤ textRoom longestSent
 unfolding turned

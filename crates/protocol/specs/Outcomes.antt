@@ -16,9 +16,9 @@ use Rattle.model.specs.Objects.{Request, denied, getAnswer, actionAnswer, turne
 use Rattle.model.specs.Calls.{Lent, frame, Outcome, refused, step}
 use Rattle.model.specs.Archive.{numbers}
 use Rattle.hdlc.specs.declared.Head.{Head}
-use Rattle.hdlc.specs.Layout.{frmr, byte, headOf}
+use Rattle.hdlc.specs.Layout.{ui, frmr, byte, headOf}
 use Rattle.hdlc.specs.Addresses.{addressOf}
-use Rattle.hdlc.specs.Tests.{Side, AllPass, frameTests}
+use Rattle.hdlc.specs.Tests.{AllPass, frameTests, clientSide}
 use Rattle.hdlc.specs.Replies.{replyFrame, uaFrame, dmFrame, apduFrame}
 use Rattle.cosem.specs.declared.Exception.{Exception}
 use Rattle.cosem.specs.Tags.{exceptionBytes}
@@ -43,7 +43,7 @@ headIn a = headOf (a .received)
 abbrev pub apduOf : List ℕ → List ℕ
 apduOf f = part 11 (length f - 3) f
 
--- its source is the address of this client
+-- the received frame's source is the address of this client
 abbrev pub SentBy : Client → Lent → Type 0
 SentBy c a = byte (a .received) 4 ≡ addressOf c
 
@@ -67,7 +67,7 @@ pub data Denial : List ℕ → Type 0 where
 abbrev pub Accepted : ℕ → Line → Type 0
 Accepted n l = inWindow (l .han .counters .accepted) n ≡ true
 
--- and one that is not
+-- and one that lies outside the window
 abbrev pub Outside : ℕ → Line → Type 0
 Outside n l = inWindow (l .han .counters .accepted) n ≡ false
 
@@ -201,9 +201,11 @@ DeniedLine = (a : Lent) (m : Model) → SentBy Han a → outcome a m .refusal �
 
 -- What goes out.
 
--- a frame whose layout every side accepts, to the sender of the received one, and no longer than "reply room" at least is
+-- a frame that passes the tests of refusal 4, which are the same for either client, to the sender of the received one, and no
+-- longer than "reply room" at least is; with an APDU, it passes every test of the client that it answers
 pub record Framed (received sent : List ℕ) : Type 0 where
-  pub layout : (side : Side) → AllPass side sent (take 8 frameTests)
+  pub layout : (c : Client) → AllPass (clientSide c) sent (take 8 frameTests)
+  pub carries : (c : Client) → byte received 4 ≡ addressOf c → byte sent 5 ≡ ui → AllPass (clientSide c) sent frameTests
   pub destination : byte sent 3 ≡ byte received 4
   pub source : byte sent 4 ≡ byte received 3
   pub fits : length sent ≤ replyRoom longestSent
