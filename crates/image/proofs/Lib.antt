@@ -5,3 +5,4 @@ pub mod LayoutLaws
 pub mod TakenLaws
 pub mod HoldableLaws
 pub mod ImageLaws
+pub mod PlaceLaws

@@ -1,3 +1,4 @@
 pub mod Codec
 pub mod Layout
 pub mod Image
+pub mod Places
