@@ -14,6 +14,7 @@ fn both() {
     call::on(
         0,
         0,
+        false,
         b"V link up: 7E A0 07 03 21 93 0F 01 7E > 00 7E A0 07 21 03 73 01 40 7E\n\
         *AARQ of V: 7E A0 40 03 21 13 91 C4 E6 E6 00 60 32 A1 09 06 07 60 85 74 05 08 01 01 A6 0A 04 08 56 45 52 \
         00 00 00 00 00 8B 07 60 85 74 05 08 02 00 BE 10 04 0E 01 00 00 00 06 5F 1F 04 00 00 00 14 03 00 A9 F7 7E \
@@ -79,6 +80,7 @@ fn no_get() {
     call::on(
         0,
         0,
+        false,
         b"H link up: 7E A0 07 03 27 93 DF 55 7E > 00 7E A0 07 27 03 73 D8 96 7E\n\
         AARQ of H with services 05: 7E A0 74 03 27 13 5F AE E6 E6 00 60 66 A1 09 06 07 60 85 74 05 08 01 03 A6 \
         0A 04 08 48 41 4E 00 00 00 00 00 8A 02 07 80 8B 07 60 85 74 05 08 02 05 AC 0A 80 08 4B 35 36 69 56 61 67 \
@@ -91,12 +93,10 @@ fn no_get() {
         13 E4 A6 8B B1 6D 30 88 7D 76 F3 F0 08 17 D9 C8 84 EF 9E 83 13 97 E7 FF 16 FD 1F 02 73 E2 19 4C 59 29 17 \
         7E > 00 7E A0 38 27 03 13 D5 0B E6 E7 00 CF 2A 30 00 00 00 03 BC C2 9B B9 9B 74 6A 2E CC 67 52 5F 54 FB \
         50 95 58 79 DA B0 EC FF A6 CD E1 1B 35 90 20 39 8A 50 8C DA D9 3E 1C C8 97 7E\n\
-        forged D0 without the GET bit: 7E A0 2C 03 27 13 91 9E E6 E6 00 D0 1E 30 00 00 00 CB B6 DE 69 18 AA AF \
-        C2 16 E4 A7 9F 38 8C FE 4B ED 21 C5 F7 DA A9 DF F0 FA C2 6F 08 7E > 12 7E A0 0F 27 03 13 06 10 E6 E7 00 \
-        D8 01 01 3C 43 7E\n\
-        D0 without the GET bit: 7E A0 2C 03 27 13 91 9E E6 E6 00 D0 1E 30 00 00 00 CB B6 DE 69 18 AA AF C2 16 E4 \
-        A7 9F 38 8C FE 4B ED 21 C5 F7 DA A9 DF F0 FA C3 E6 19 7E > 12 7E A0 0F 27 03 13 06 10 E6 E7 00 D8 01 01 \
-        3C 43 7E\n\
+        forged D0 without the GET bit: 27 D0 1E 30 00 00 00 CB B6 DE 69 18 AA AF C2 16 E4 A7 9F 38 8C FE 4B ED \
+        21 C5 F7 DA A9 DF F0 FA C2 > 12 27 D8 01 01\n\
+        D0 without the GET bit: 27 D0 1E 30 00 00 00 CB B6 DE 69 18 AA AF C2 16 E4 A7 9F 38 8C FE 4B ED 21 C5 F7 \
+        DA A9 DF F0 FA C3 > 12 27 D8 01 01\n\
         ACTION with its bit: D3 00 00 00 CB C3 01 C1 00 03 00 00 60 0F 03 FF 01 00 > 00 D7 00 00 00 04 C7 01 C1 \
         00 00\n",
     );

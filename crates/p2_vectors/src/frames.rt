@@ -32,14 +32,52 @@ pub fn meter() -> Sender {
     }
 }
 
-// The frame that a text stands for: its own bytes; or, where they begin with the tag of an envelope, the frame around the
-// envelope with that tag, with the counter of the next four bytes, and with the rest inside.
+// The frame that a text stands for: its own bytes; or the frame around an APDU, where they begin with the address of a client,
+// which the APDU follows; or the frame around an envelope of H, where they begin with its tag, which the four bytes of the
+// counter and the plain text follow; or, for FF and a number of two bytes, a frame of zeros that ends its APDU at this place.
 pub fn laid_out(sender: Sender, text: &[u8], out: &mut [u8]) -> usize {
     let mut bytes = [0u8; 800];
     let n = decode(text, &mut bytes);
     match bytes[0] {
+        0x21 => plain(sender, 0x21, report::after(&bytes[0..n], 1), out),
+        0x27 => plain(sender, 0x27, report::after(&bytes[0..n], 1), out),
         0xCB | 0xCF | 0xD0 | 0xD3 | 0xD4 | 0xD7 => enclosed(sender, &bytes[0..n], out),
+        0xFF => framed(sender, out, place(bytes[1], bytes[2])),
         _ => decode(text, out),
+    }
+}
+
+fn place(high: u8, low: u8) -> usize {
+    high as usize * 256 + low as usize
+}
+
+// The frame around an APDU from or to this client.
+fn plain(sender: Sender, client: u8, apdu: &[u8], out: &mut [u8]) -> usize {
+    if out.len() < 800 {
+        return 0;
+    }
+    if 765 < apdu.len() {
+        return 0;
+    }
+    let end = wire::put_all(out, 11, apdu);
+    framed(between(sender, client), out, end)
+}
+
+fn between(sender: Sender, client: u8) -> Sender {
+    let title = sender.title;
+    if sender.source == 0x03 {
+        return Sender {
+            title,
+            destination: client,
+            source: 0x03,
+            llc: 0xE7,
+        };
+    }
+    Sender {
+        title,
+        destination: 0x03,
+        source: client,
+        llc: 0xE6,
     }
 }
 

@@ -8,14 +8,10 @@ pub fn run() {
 }
 
 fn six_columns() {
-    call::on_pending(
+    call::on_associated(
         6,
         15,
-        b"challenge of H: 7E A0 3F 03 27 13 FD 78 E6 E6 00 CB 31 30 00 00 00 CA 46 87 EF 5E 34 7C 0C 09 94 D9 99 \
-        13 E4 A6 8B B1 6D 30 88 7D 76 F3 F0 08 17 D9 C8 84 EF 9E 83 13 97 E7 FF 16 FD 1F 02 73 E2 19 4C 59 29 17 \
-        7E > 00 7E A0 38 27 03 13 D5 0B E6 E7 00 CF 2A 30 00 00 00 03 BC C2 9B B9 9B 74 6A 2E CC 67 52 5F 54 FB \
-        50 95 58 79 DA B0 EC FF A6 CD E1 1B 35 90 20 39 8A 50 8C DA D9 3E 1C C8 97 7E\n\
-        fifteen rows of six columns: D0 00 00 00 CB C0 01 C1 00 07 00 00 15 00 06 FF 02 00 > 00 D4 00 00 00 04 \
+        b"fifteen rows of six columns: D0 00 00 00 CB C0 01 C1 00 07 00 00 15 00 06 FF 02 00 > 00 D4 00 00 00 04 \
         C4 01 C1 00 01 0F 02 08 12 00 0F 09 0C 07 E1 01 01 FF 00 0F 00 FF 80 00 00 06 80 00 00 0F 06 80 01 00 0F \
         06 80 02 00 0F 06 80 03 00 0F 06 80 04 00 0F 06 80 05 00 0F 02 08 12 00 0E 09 0C 07 E1 01 01 FF 00 0E 00 \
         FF 80 00 00 06 80 00 00 0E 06 80 01 00 0E 06 80 02 00 0E 06 80 03 00 0E 06 80 04 00 0E 06 80 05 00 0E 02 \
@@ -42,24 +38,16 @@ fn six_columns() {
 }
 
 fn too_long() {
-    call::on_pending(
+    call::on_associated(
         7,
         15,
-        b"challenge of H: 7E A0 3F 03 27 13 FD 78 E6 E6 00 CB 31 30 00 00 00 CA 46 87 EF 5E 34 7C 0C 09 94 D9 99 \
-        13 E4 A6 8B B1 6D 30 88 7D 76 F3 F0 08 17 D9 C8 84 EF 9E 83 13 97 E7 FF 16 FD 1F 02 73 E2 19 4C 59 29 17 \
-        7E > 00 7E A0 38 27 03 13 D5 0B E6 E7 00 CF 2A 30 00 00 00 03 BC C2 9B B9 9B 74 6A 2E CC 67 52 5F 54 FB \
-        50 95 58 79 DA B0 EC FF A6 CD E1 1B 35 90 20 39 8A 50 8C DA D9 3E 1C C8 97 7E\n\
-        fifteen rows of seven columns: D0 00 00 00 CB C0 01 C1 00 07 00 00 15 00 06 FF 02 00 > 13 D4 00 00 00 04 \
+        b"fifteen rows of seven columns: D0 00 00 00 CB C0 01 C1 00 07 00 00 15 00 06 FF 02 00 > 13 D4 00 00 00 04 \
         C4 01 C1 01 FA\n",
     );
-    call::on_pending(
+    call::on_associated(
         11,
         10,
-        b"challenge of H: 7E A0 3F 03 27 13 FD 78 E6 E6 00 CB 31 30 00 00 00 CA 46 87 EF 5E 34 7C 0C 09 94 D9 99 \
-        13 E4 A6 8B B1 6D 30 88 7D 76 F3 F0 08 17 D9 C8 84 EF 9E 83 13 97 E7 FF 16 FD 1F 02 73 E2 19 4C 59 29 17 \
-        7E > 00 7E A0 38 27 03 13 D5 0B E6 E7 00 CF 2A 30 00 00 00 03 BC C2 9B B9 9B 74 6A 2E CC 67 52 5F 54 FB \
-        50 95 58 79 DA B0 EC FF A6 CD E1 1B 35 90 20 39 8A 50 8C DA D9 3E 1C C8 97 7E\n\
-        ten rows of eleven columns: D0 00 00 00 CB C0 01 C1 00 07 00 00 15 00 06 FF 02 00 > 13 D4 00 00 00 04 C4 \
+        b"ten rows of eleven columns: D0 00 00 00 CB C0 01 C1 00 07 00 00 15 00 06 FF 02 00 > 13 D4 00 00 00 04 C4 \
         01 C1 01 FA\n",
     );
 }

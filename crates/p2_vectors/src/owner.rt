@@ -5,9 +5,17 @@ use model::Name;
 use model::Register;
 ghost use Prim.Native.Nat.{_<_};
 
+// A filled meter, with the P5 flag set or cleared.
+pub fn prepared(columns: u8, rows: u8, held: bool) -> Meter {
+    let m = filled(columns, rows);
+    let r = m.set_p5(held);
+    let p = r.meter;
+    p
+}
+
 // So many registers, each a column, and a row in each of the first minutes of an hour. In minute n the register k has the
 // value 80 k 00 n, in bytes.
-pub fn filled(columns: u8, rows: u8) -> Meter {
+fn filled(columns: u8, rows: u8) -> Meter {
     let m = with_columns(columns as usize);
     let mut next = m;
     let mut n: u8 = 0;
@@ -68,14 +76,6 @@ pub fn with_period(period: u32) -> Meter {
     b.period = period;
     m.body = b;
     m
-}
-
-// A new meter while P5 holds V.
-pub fn held() -> Meter {
-    let m = new();
-    let r = m.set_p5(true);
-    let held = r.meter;
-    held
 }
 
 // A time on the first day of 2017.
