@@ -8,9 +8,11 @@ pub fn run() {
 }
 
 fn six_columns() {
-    call::on_associated(
+    call::on(
         6,
         15,
+        false,
+        call::ASSOCIATED,
         b"fifteen rows of six columns: D0 00 00 00 CB C0 01 C1 00 07 00 00 15 00 06 FF 02 00 > 00 D4 00 00 00 04 \
         C4 01 C1 00 01 0F 02 08 12 00 0F 09 0C 07 E1 01 01 FF 00 0F 00 FF 80 00 00 06 80 00 00 0F 06 80 01 00 0F \
         06 80 02 00 0F 06 80 03 00 0F 06 80 04 00 0F 06 80 05 00 0F 02 08 12 00 0E 09 0C 07 E1 01 01 FF 00 0E 00 \
@@ -38,15 +40,19 @@ fn six_columns() {
 }
 
 fn too_long() {
-    call::on_associated(
+    call::on(
         7,
         15,
+        false,
+        call::ASSOCIATED,
         b"fifteen rows of seven columns: D0 00 00 00 CB C0 01 C1 00 07 00 00 15 00 06 FF 02 00 > 13 D4 00 00 00 04 \
         C4 01 C1 01 FA\n",
     );
-    call::on_associated(
+    call::on(
         11,
         10,
+        false,
+        call::ASSOCIATED,
         b"ten rows of eleven columns: D0 00 00 00 CB C0 01 C1 00 07 00 00 15 00 06 FF 02 00 > 13 D4 00 00 00 04 C4 \
         01 C1 01 FA\n",
     );

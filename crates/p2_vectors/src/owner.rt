@@ -1,21 +1,13 @@
-// Meters as their owner prepares them, by owner's calls; and with a period set by hand.
+// Meters as their owner prepares them, by owner's calls.
 use meter::Meter;
 use model::Clock;
 use model::Name;
 use model::Register;
 ghost use Prim.Native.Nat.{_<_};
 
-// A filled meter, with the P5 flag set or cleared.
-pub fn prepared(columns: u8, rows: u8, held: bool) -> Meter {
-    let m = filled(columns, rows);
-    let r = m.set_p5(held);
-    let p = r.meter;
-    p
-}
-
 // So many registers, each a column, and a row in each of the first minutes of an hour. In minute n the register k has the
 // value 80 k 00 n, in bytes.
-fn filled(columns: u8, rows: u8) -> Meter {
+pub fn filled(columns: u8, rows: u8) -> Meter {
     let m = with_columns(columns as usize);
     let mut next = m;
     let mut n: u8 = 0;
@@ -60,22 +52,13 @@ fn with_values(m: Meter, columns: u8, n: u8) -> Meter {
     next
 }
 
-fn new() -> Meter {
+pub fn new() -> Meter {
     Meter::new(
         *b"TPC1070201000001",
         *b"\x4D\x4D\x4D\x00\x00\xBC\x61\x4E",
         *b"VER\x00\x00\x00\x00\x00",
         *b"HAN\x00\x00\x00\x00\x00",
     )
-}
-
-// A new meter with this period written into its place, as no owner's call does.
-pub fn with_period(period: u32) -> Meter {
-    let mut m = new();
-    let mut b = m.body;
-    b.period = period;
-    m.body = b;
-    m
 }
 
 // A time on the first day of 2017.
