@@ -2,15 +2,8 @@
 // the challenge met by a wrong proof, by another name, and by a client that does not ask for GET.
 use crate::call;
 
-pub fn run() {
-    both();
-    wrong_proof();
-    other_name();
-    no_get();
-}
-
 // V reads the device name. H proves itself and reads the clock.
-fn both() {
+pub fn both() {
     call::on(
         0,
         0,
@@ -49,7 +42,7 @@ fn both() {
 }
 
 // A wrong proof ends the association.
-fn wrong_proof() {
+pub fn wrong_proof() {
     call::on(
         0,
         0,
@@ -64,7 +57,7 @@ fn wrong_proof() {
 }
 
 // A proof on a name that is not the challenge's leaves H pending, with the envelope's counter accepted.
-fn other_name() {
+pub fn other_name() {
     call::on(
         0,
         0,
@@ -81,7 +74,7 @@ fn other_name() {
 }
 
 // Without the GET bit agreed, D0 is untimely before its envelope is looked at.
-fn no_get() {
+pub fn no_get() {
     call::on(
         0,
         0,

@@ -5,14 +5,16 @@ use model::Name;
 use model::Register;
 ghost use Prim.Native.Nat.{_<_};
 
-// So many registers, each a column, and a row in each of the first minutes of an hour. In minute n the register k has the
-// value 80 k 00 n, in bytes.
+// So many registers, each a column, and a row in each of the first minutes of an hour. The register k has the value 80 k 00 00,
+// in bytes, but for the first, which has 80 00 00 n in minute n.
 pub fn filled(columns: u8, rows: u8) -> Meter {
     let m = with_columns(columns as usize);
     let mut next = m;
     let mut n: u8 = 0;
     while n < rows {
-        let set = with_values(next, columns, n + 1);
+        let o = name(0);
+        let s = next.set_value(o, 0x80000001 + wide(n));
+        let set = s.meter;
         let t = clock(0, n + 1, 0);
         let r = set.tick(t);
         let ticked = r.meter;
@@ -23,11 +25,11 @@ pub fn filled(columns: u8, rows: u8) -> Meter {
 }
 
 fn with_columns(columns: usize) -> Meter {
-    let mut items = [register(0, true, 0x1E); 16];
+    let mut items = [register(0); 16];
     let mut names = [name(0); 16];
     let mut k: usize = 0;
     while k < 16 {
-        items[k] = register(k as u8, true, 0x1E);
+        items[k] = register(k as u8);
         names[k] = name(k as u8);
         k += 1;
     }
@@ -37,19 +39,6 @@ fn with_columns(columns: usize) -> Meter {
     let c = b.set_columns(names, columns);
     let d = c.meter;
     d
-}
-
-fn with_values(m: Meter, columns: u8, n: u8) -> Meter {
-    let mut next = m;
-    let mut k: u8 = 0;
-    while k < columns {
-        let o = name(k);
-        let r = next.set_value(o, 0x80000000 + wide(k) * 65536 + wide(n));
-        let set = r.meter;
-        next = set;
-        k += 1;
-    }
-    next
 }
 
 pub fn new() -> Meter {
@@ -87,14 +76,14 @@ fn name(k: u8) -> Name {
     }
 }
 
-fn register(k: u8, readable: bool, unit: u8) -> Register {
+fn register(k: u8) -> Register {
     let n = name(k);
     Register {
         name: n,
-        readable,
+        readable: true,
         scaler: 0xFF,
-        unit,
-        value: 0,
+        unit: 0x1E,
+        value: 0x80000000 + wide(k) * 65536,
     }
 }
 

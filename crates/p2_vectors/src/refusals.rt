@@ -1,17 +1,8 @@
 // Refusals 4 to 13, in the order of their tests. Frames with two faults show which test comes first.
 use crate::call;
 
-pub fn run() {
-    frames();
-    held();
-    verification();
-    rejected_han();
-    han();
-    ahead();
-}
-
 // 4, 5, 8, 9, and 10 while links are down.
-fn frames() {
+pub fn frames() {
     call::on(
         1,
         0,
@@ -53,7 +44,7 @@ fn frames() {
 }
 
 // 10, V held by P5.
-fn held() {
+pub fn held() {
     call::on(
         0,
         0,
@@ -65,7 +56,7 @@ fn held() {
 }
 
 // 11 to 13 of V.
-fn verification() {
+pub fn verification() {
     call::on(
         1,
         0,
@@ -103,7 +94,7 @@ fn verification() {
 }
 
 // 11 and 12 of H before its association.
-fn rejected_han() {
+pub fn rejected_han() {
     call::on(
         1,
         0,
@@ -126,7 +117,7 @@ fn rejected_han() {
 }
 
 // 12, 13, 6 and 7 of H: a forged envelope drops nothing, whatever its counter.
-fn han() {
+pub fn han() {
     call::on(
         0,
         0,
@@ -161,7 +152,7 @@ fn han() {
 }
 
 // 7: more than 180 ahead.
-fn ahead() {
+pub fn ahead() {
     call::on(
         0,
         0,
