@@ -2,19 +2,13 @@
 // the challenge met by a wrong proof, by another name, and by a client that does not ask for GET.
 use crate::call;
 
-pub fn run() {
-    both();
-    wrong_proof();
-    other_name();
-    no_get();
-}
-
 // V reads the device name. H proves itself and reads the clock.
-fn both() {
+pub fn both() {
     call::on(
         0,
         0,
         false,
+        call::NONE,
         b"V link up: 7E A0 07 03 21 93 0F 01 7E > 00 7E A0 07 21 03 73 01 40 7E\n\
         *AARQ of V: 7E A0 40 03 21 13 91 C4 E6 E6 00 60 32 A1 09 06 07 60 85 74 05 08 01 01 A6 0A 04 08 56 45 52 \
         00 00 00 00 00 8B 07 60 85 74 05 08 02 00 BE 10 04 0E 01 00 00 00 06 5F 1F 04 00 00 00 14 03 00 A9 F7 7E \
@@ -48,10 +42,12 @@ fn both() {
 }
 
 // A wrong proof ends the association.
-fn wrong_proof() {
-    call::on_pending(
+pub fn wrong_proof() {
+    call::on(
         0,
         0,
+        false,
+        call::PENDING,
         b"wrong proof: CB 00 00 00 CA C3 01 C1 00 0F 00 00 28 00 04 FF 01 01 09 11 10 00 00 00 C9 D6 A8 C2 A5 3B \
         23 1E 09 82 FF 81 9D > 13 7E A0 24 27 03 13 40 5F E6 E7 00 CF 16 30 00 00 00 02 37 CA 3F 08 CD D2 24 A6 \
         EA 68 41 4C B9 8C 36 F2 8E 96 BE 7E\n\
@@ -61,10 +57,12 @@ fn wrong_proof() {
 }
 
 // A proof on a name that is not the challenge's leaves H pending, with the envelope's counter accepted.
-fn other_name() {
-    call::on_pending(
+pub fn other_name() {
+    call::on(
         0,
         0,
+        false,
+        call::PENDING,
         b"right proof on 0.0.40.0.0.255: CB 00 00 00 CA C3 01 C1 00 0F 00 00 28 00 00 FF 01 01 09 11 10 00 00 00 \
         C9 D6 A8 C2 A5 3B 23 1E 09 82 FF 81 9C > 12 7E A0 0F 27 03 13 06 10 E6 E7 00 D8 01 01 3C 43 7E\n\
         right proof on 0.0.40.0.4.255: CB 00 00 00 CC C3 01 C1 00 0F 00 00 28 00 04 FF 01 01 09 11 10 00 00 00 \
@@ -76,11 +74,12 @@ fn other_name() {
 }
 
 // Without the GET bit agreed, D0 is untimely before its envelope is looked at.
-fn no_get() {
+pub fn no_get() {
     call::on(
         0,
         0,
         false,
+        call::NONE,
         b"H link up: 7E A0 07 03 27 93 DF 55 7E > 00 7E A0 07 27 03 73 D8 96 7E\n\
         AARQ of H with services 05: 7E A0 74 03 27 13 5F AE E6 E6 00 60 66 A1 09 06 07 60 85 74 05 08 01 03 A6 \
         0A 04 08 48 41 4E 00 00 00 00 00 8A 02 07 80 8B 07 60 85 74 05 08 02 05 AC 0A 80 08 4B 35 36 69 56 61 67 \

@@ -12,8 +12,16 @@ mod refusals;
 mod report;
 
 fn main() {
-    exchange::run();
+    exchange::both();
+    exchange::wrong_proof();
+    exchange::other_name();
+    exchange::no_get();
     long::run();
-    refusals::run();
+    refusals::frames();
+    refusals::held();
+    refusals::verification();
+    refusals::rejected_han();
+    refusals::han();
+    refusals::ahead();
     lent::run();
 }

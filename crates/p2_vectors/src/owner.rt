@@ -1,26 +1,20 @@
-// Meters as their owner prepares them, by owner's calls; and with a period set by hand.
+// Meters as their owner prepares them, by owner's calls.
 use meter::Meter;
 use model::Clock;
 use model::Name;
 use model::Register;
 ghost use Prim.Native.Nat.{_<_};
 
-// A filled meter, with the P5 flag set or cleared.
-pub fn prepared(columns: u8, rows: u8, held: bool) -> Meter {
-    let m = filled(columns, rows);
-    let r = m.set_p5(held);
-    let p = r.meter;
-    p
-}
-
-// So many registers, each a column, and a row in each of the first minutes of an hour. In minute n the register k has the
-// value 80 k 00 n, in bytes.
-fn filled(columns: u8, rows: u8) -> Meter {
+// So many registers, each a column, and a row in each of the first minutes of an hour. The register k has the value 80 k 00 00,
+// in bytes, but for the first, which has 80 00 00 n in minute n.
+pub fn filled(columns: u8, rows: u8) -> Meter {
     let m = with_columns(columns as usize);
     let mut next = m;
     let mut n: u8 = 0;
     while n < rows {
-        let set = with_values(next, columns, n + 1);
+        let o = name(0);
+        let s = next.set_value(o, 0x80000001 + wide(n));
+        let set = s.meter;
         let t = clock(0, n + 1, 0);
         let r = set.tick(t);
         let ticked = r.meter;
@@ -31,11 +25,11 @@ fn filled(columns: u8, rows: u8) -> Meter {
 }
 
 fn with_columns(columns: usize) -> Meter {
-    let mut items = [register(0, true, 0x1E); 16];
+    let mut items = [register(0); 16];
     let mut names = [name(0); 16];
     let mut k: usize = 0;
     while k < 16 {
-        items[k] = register(k as u8, true, 0x1E);
+        items[k] = register(k as u8);
         names[k] = name(k as u8);
         k += 1;
     }
@@ -47,35 +41,13 @@ fn with_columns(columns: usize) -> Meter {
     d
 }
 
-fn with_values(m: Meter, columns: u8, n: u8) -> Meter {
-    let mut next = m;
-    let mut k: u8 = 0;
-    while k < columns {
-        let o = name(k);
-        let r = next.set_value(o, 0x80000000 + wide(k) * 65536 + wide(n));
-        let set = r.meter;
-        next = set;
-        k += 1;
-    }
-    next
-}
-
-fn new() -> Meter {
+pub fn new() -> Meter {
     Meter::new(
         *b"TPC1070201000001",
         *b"\x4D\x4D\x4D\x00\x00\xBC\x61\x4E",
         *b"VER\x00\x00\x00\x00\x00",
         *b"HAN\x00\x00\x00\x00\x00",
     )
-}
-
-// A new meter with this period written into its place, as no owner's call does.
-pub fn with_period(period: u32) -> Meter {
-    let mut m = new();
-    let mut b = m.body;
-    b.period = period;
-    m.body = b;
-    m
 }
 
 // A time on the first day of 2017.
@@ -104,14 +76,14 @@ fn name(k: u8) -> Name {
     }
 }
 
-fn register(k: u8, readable: bool, unit: u8) -> Register {
+fn register(k: u8) -> Register {
     let n = name(k);
     Register {
         name: n,
-        readable,
+        readable: true,
         scaler: 0xFF,
-        unit,
-        value: 0,
+        unit: 0x1E,
+        value: 0x80000000 + wide(k) * 65536,
     }
 }
 

@@ -1,21 +1,13 @@
 // Refusals 4 to 13, in the order of their tests. Frames with two faults show which test comes first.
 use crate::call;
 
-pub fn run() {
-    frames();
-    held();
-    verification();
-    rejected_han();
-    han();
-    ahead();
-}
-
 // 4, 5, 8, 9, and 10 while links are down.
-fn frames() {
+pub fn frames() {
     call::on(
         1,
         0,
         false,
+        call::NONE,
         b"no bytes: > 04\n\
         eight bytes: 7E A0 07 03 21 93 0F 7E > 04\n\
         first flag missing: 7F A0 07 03 21 93 0F 01 7E > 04\n\
@@ -52,22 +44,24 @@ fn frames() {
 }
 
 // 10, V held by P5.
-fn held() {
+pub fn held() {
     call::on(
         0,
         0,
         true,
+        call::NONE,
         b"V link up while P5 holds V: 7E A0 07 03 21 93 0F 01 7E > 10 7E A0 07 21 03 1F 6B E9 7E\n\
         H link up while P5 holds V: 7E A0 07 03 27 93 DF 55 7E > 00 7E A0 07 27 03 73 D8 96 7E\n",
     );
 }
 
 // 11 to 13 of V.
-fn verification() {
+pub fn verification() {
     call::on(
         1,
         0,
         false,
+        call::NONE,
         b"V link up: 7E A0 07 03 21 93 0F 01 7E > 00 7E A0 07 21 03 73 01 40 7E\n\
         AARQ of V with another title: 21 60 32 A1 09 06 07 60 85 74 05 08 01 01 A6 0A 04 08 56 45 52 00 00 00 00 \
         01 8B 07 60 85 74 05 08 02 00 BE 10 04 0E 01 00 00 00 06 5F 1F 04 00 00 00 14 03 00 > 11 21 61 1F A1 09 \
@@ -100,11 +94,12 @@ fn verification() {
 }
 
 // 11 and 12 of H before its association.
-fn rejected_han() {
+pub fn rejected_han() {
     call::on(
         1,
         0,
         false,
+        call::NONE,
         b"H link up: 7E A0 07 03 27 93 DF 55 7E > 00 7E A0 07 27 03 73 D8 96 7E\n\
         AARQ of H with a forged envelope: 27 60 66 A1 09 06 07 60 85 74 05 08 01 03 A6 0A 04 08 48 41 4E 00 00 \
         00 00 00 8A 02 07 80 8B 07 60 85 74 05 08 02 05 AC 0A 80 08 4B 35 36 69 56 61 67 59 BE 34 04 32 21 30 30 \
@@ -122,10 +117,12 @@ fn rejected_han() {
 }
 
 // 12, 13, 6 and 7 of H: a forged envelope drops nothing, whatever its counter.
-fn han() {
-    call::on_pending(
+pub fn han() {
+    call::on(
         0,
         0,
+        false,
+        call::PENDING,
         b"D0 of H while pending: 27 D0 1E 30 00 00 00 CB B6 DE 69 18 AA AF C2 16 E4 A7 9F 38 8C FE 4B ED 21 C5 F7 \
         DA A9 DF F0 FA C3 > 12 27 D8 01 01\n\
         unknown tag of H: 27 D4 > 12 27 D8 02 02\n\
@@ -155,10 +152,12 @@ fn han() {
 }
 
 // 7: more than 180 ahead.
-fn ahead() {
-    call::on_associated(
+pub fn ahead() {
+    call::on(
         0,
         0,
+        false,
+        call::ASSOCIATED,
         b"GET of the clock, 181 ahead: D0 00 00 01 7F C0 01 C1 00 08 00 00 01 00 00 FF 02 00 > 07\n\
         GET of the clock after it: D0 00 00 00 CB C0 01 C1 00 08 00 00 01 00 00 FF 02 00 > 12 27 D8 01 01\n",
     );
