@@ -6,3 +6,4 @@ pub mod TakenLaws
 pub mod HoldableLaws
 pub mod ImageLaws
 pub mod PlaceLaws
+pub mod ListLaws

@@ -11,6 +11,7 @@ use lib.Seq.{take-suc, take-suc-set, take-all, drop-drop}
 use Rattle.wire.specs.Wrote.{Wrote}
 use Rattle.wire.proofs.WroteLaws.{then, nothing}
 use Rattle.image.specs.Codec.{Codec, values, allTaken, Each, none, more, many, Put, Got}
+use Rattle.image.specs.Lists.{Firsts}
 
 -- The first i elements are written.
 pub record Putting {A : Type 0} (c : Codec A) (n : ℕ) (xs : List A) (l : List ℕ) (at : ℕ) (m : List ℕ) (k i : ℕ) : Type 0 where
@@ -68,10 +69,11 @@ module _ {A : Type 0} {c : Codec A} {n : ℕ} {xs : List A} {l : List ℕ} {at :
 next-place : (i z at : ℕ) {k : ℕ} → k ≡ at + i * z → k + z ≡ at + (i + 1) * z
 next-place i z at e = rw (add-one i, suc-mul i z, e) (omega arith)
 
--- The first i elements are read; the next stands at k.
-pub record Getting {A : Type 0} (c : Codec A) (n : ℕ) (s : List ℕ) (at : ℕ) (out : List A) (k i : ℕ) : Type 0 where
+-- Of n elements that are read into so many places the first i are read; the next stands at k.
+pub record Getting {A : Type 0} (c : Codec A) (places n : ℕ) (s : List ℕ) (at : ℕ) (out : List A) (k i : ℕ) : Type 0 where
   pub below : i ≤ n
-  pub full : length out ≡ n
+  pub fits : n ≤ places
+  pub full : length out ≡ places
   pub room : at + n * c .size ≤ length s
   pub place : k ≡ at + i * c .size
   pub done : take i out ≡ values c i (drop at s)
@@ -85,33 +87,39 @@ values-last c (suc n) s =
     let j : z + n * z ≡ suc n * z = omega (arith, suc-mul n z) in
     ap (_∷_ (c .value s)) (values-last c n (drop z s) ∙ ap (λ (t : List ℕ). values c n (drop z s) ++ (c .value t ∷ [])) (drop-drop (n * z) z s ∙ ap (λ (k : ℕ). drop k s) j))
 
-module _ {A : Type 0} {c : Codec A} {n : ℕ} {s : List ℕ} {at : ℕ} {out : List A} where
-  pub getting-none : length out ≡ n → at + n * c .size ≤ length s → Getting c n s at out at 0
+module _ {A : Type 0} {c : Codec A} {places n : ℕ} {s : List ℕ} {at : ℕ} {out : List A} where
+  pub getting-none : length out ≡ places → n ≤ places → at + n * c .size ≤ length s → Getting c places n s at out at 0
   unfolding values
-  getting-none e h = record { below = omega arith; full = e; room = h; place = rw (zero-mul (c .size)) (omega arith); done = refl }
+  getting-none e f h =
+      record { below = omega arith; fits = f; full = e; room = h; place = rw (zero-mul (c .size)) (omega arith); done = refl }
 
-  module _ {k i : ℕ} (p : Getting c n s at out k i) where
+  module _ {k i : ℕ} (p : Getting c places n s at out k i) where
     pub getting-room : i < n → k + c .size ≤ length s
     getting-room h = omega (arith, p .place, room-more i n (c .size) at h (p .room))
 
-    pub getting-more : {x : A} (z : ℕ) → c .size ≡ z → i < n → Got c s k x → Getting c n s at (set out i x) (k + z) (i + 1)
+    pub getting-more : {x : A} (z : ℕ) → c .size ≡ z → i < n → Got c s k x → Getting c places n s at (set out i x) (k + z) (i + 1)
     getting-more {x} z q h g =
-        let o : i < length out = omega (arith, p .full) in
+        let o : i < length out = omega (arith, p .full, p .fits) in
         let v : values c (suc i) (drop at s) ≡ values c i (drop at s) ++ (x ∷ []) =
         values-last c i (drop at s)
         ∙ ap (λ (t : A). values c i (drop at s) ++ (t ∷ [])) (ap (c .value) (drop-drop (i * c .size) at s ∙ ap (λ (j : ℕ). drop j s) (sym (p .place))) ∙ sym (g .is)) in
         record {
           below = omega arith;
+          fits = p .fits;
           full = length-set out i x ∙ p .full;
           room = p .room;
           place = rw (sym q) (next-place i (c .size) at (p .place));
           done = rw add-one (take-suc-set out i x o ∙ ap (λ (t : List A). t ++ (x ∷ [])) (p .done) ∙ sym v);
         }
 
-    pub getting-all : n ≤ i → Got (many n c) s at out
-    getting-all h =
+    pub getting-firsts : n ≤ i → Firsts c places n s at out
+    getting-firsts h =
         let j : i ≡ n = omega (arith, p .below) in
-        record { is = sym (take-all i out (omega (arith, p .full))) ∙ p .done ∙ ap (λ (k : ℕ). values c k (drop at s)) j }
+        record { full = p .full; are = rw j at (p .done) }
+
+-- where every place is read
+pub firsts-all : {A : Type 0} {c : Codec A} {n : ℕ} {s : List ℕ} {at : ℕ} {xs : List A} → Firsts c n n s at xs → Got (many n c) s at xs
+firsts-all {n = n} {xs = xs} f = record { is = sym (take-all n xs (omega (arith, f .full))) ∙ f .are }
 
 -- The bytes of the first i elements are taken, and what is left decides; the next stands at k.
 pub record Testing {A : Type 0} (c : Codec A) (n : ℕ) (s : List ℕ) (at k i : ℕ) : Type 0 where

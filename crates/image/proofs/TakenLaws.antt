@@ -17,7 +17,7 @@ pub register-taken : (s : List ℕ) → registerPart .taken s ≡ flag .taken (d
 unfolding registerPart namePart fields
 register-taken s = and-true (flag .taken (drop 6 s))
 
-name-taken : (s : List ℕ) → namePart .taken s ≡ true
+pub name-taken : (s : List ℕ) → namePart .taken s ≡ true
 unfolding namePart fields
 name-taken s = refl
 

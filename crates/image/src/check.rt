@@ -53,16 +53,16 @@ fn body_taken(s: &[u8], at: usize) -> bool
     requires { ⌜ at + bodyPart .size ≤ length (now s) ⌝ }
     ensures { λ r. ⌜ r ≡ bodyPart .taken (drop at (now (s .entry))) ⌝ }
 {
-    each_register_taken(s, at + FIRST_REGISTER)
+    each_register_taken(s, at + FIRST_REGISTER, 16)
 }
 
-fn each_register_taken(s: &[u8], at: usize) -> bool
-    requires { ⌜ at + (many 16 registerPart) .size ≤ length (now s) ⌝ }
-    ensures { λ r. ⌜ r ≡ (many 16 registerPart) .taken (drop at (now (s .entry))) ⌝ }
+pub fn each_register_taken(s: &[u8], at: usize, count: usize) -> bool
+    requires { ⌜ at + (many count registerPart) .size ≤ length (now s) ⌝ }
+    ensures { λ r. ⌜ r ≡ (many count registerPart) .taken (drop at (now (s .entry))) ⌝ }
 {
     let mut k = at;
     let mut i: usize = 0;
-    while i < 16 {
+    while i < count {
         if !flag_taken(s, k + NAME) {
             return false;
         }

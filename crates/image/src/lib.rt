@@ -2,9 +2,14 @@
 // written, sound or not; what is read is refused by its length, its version, or a byte that no meter has. docs/IMAGE.md has
 // the places.
 mod check;
+mod lists;
 mod read;
 mod write;
 
+pub use lists::are_names;
+pub use lists::are_registers;
+pub use lists::names_in;
+pub use lists::registers_in;
 use meter::Meter;
 ghost use mathlib.Core.Path.{_≡_};
 ghost use Rattle.image.specs.Image.{blankMeter, readImage, Writes};

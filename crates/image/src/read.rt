@@ -17,6 +17,7 @@ use wire::Field;
 ghost use Prim.Native.Nat.{_+_, _≤_};
 ghost use lib.ListN.{length};
 ghost use Rattle.image.specs.Codec.{block, byte, flag, Got, many, number, phase};
+ghost use Rattle.image.specs.Lists.{Firsts};
 ghost use Rattle.image.specs.Layout.{bodyPart, cipherPartyPart, clockPart, columnsPart, countersPart, linePart, meterPart, namePart, partyPart, registerPart, registersPart, rowPart, rowsPart};
 
 // How many bytes the parts take.
@@ -161,19 +162,26 @@ fn registers_at(s: &[u8], at: usize) -> Registers
     ensures { λ r. ⌜ Got registersPart (now (s .entry)) at r ⌝ }
 {
     let count = eight_at(s, at);
-    let items = each_register_at(s, at + 8);
+    let items = each_register_at(s, at + 8, 16);
     Registers { count, items }
 }
 
-fn each_register_at(s: &[u8], at: usize) -> [Register; 16]
-    requires { ⌜ at + (many 16 registerPart) .size ≤ length (now s) ⌝ }
-    ensures { λ r. ⌜ Got (many 16 registerPart) (now (s .entry)) at r ⌝ }
+// The first registers of an array, as many as asked for; the others are blank.
+pub fn each_register_at(s: &[u8], at: usize, count: usize) -> [Register; 16]
+    requires { ⌜ (count ≤ 16) × (at + (many count registerPart) .size ≤ length (now s)) ⌝ }
+    ensures { λ r. ⌜ Firsts registerPart 16 count (now (s .entry)) at r ⌝ }
 {
-    let first = register_at(s, at);
-    let mut out = [first; 16];
+    let blank = Register {
+        name: Name { bytes: [0u8; 6] },
+        readable: false,
+        scaler: 0,
+        unit: 0,
+        value: 0,
+    };
+    let mut out = [blank; 16];
     let mut k = at;
     let mut i: usize = 0;
-    while i < 16 {
+    while i < count {
         let next = register_at(s, k);
         out[i] = next;
         k += REGISTER;
@@ -208,19 +216,19 @@ fn columns_at(s: &[u8], at: usize) -> Columns
     ensures { λ r. ⌜ Got columnsPart (now (s .entry)) at r ⌝ }
 {
     let count = eight_at(s, at);
-    let items = each_column_at(s, at + 8);
+    let items = each_column_at(s, at + 8, 16);
     Columns { count, items }
 }
 
-fn each_column_at(s: &[u8], at: usize) -> [Name; 16]
-    requires { ⌜ at + (many 16 namePart) .size ≤ length (now s) ⌝ }
-    ensures { λ r. ⌜ Got (many 16 namePart) (now (s .entry)) at r ⌝ }
+pub fn each_column_at(s: &[u8], at: usize, count: usize) -> [Name; 16]
+    requires { ⌜ (count ≤ 16) × (at + (many count namePart) .size ≤ length (now s)) ⌝ }
+    ensures { λ r. ⌜ Firsts namePart 16 count (now (s .entry)) at r ⌝ }
 {
-    let first = name_at(s, at);
-    let mut out = [first; 16];
+    let blank = Name { bytes: [0u8; 6] };
+    let mut out = [blank; 16];
     let mut k = at;
     let mut i: usize = 0;
-    while i < 16 {
+    while i < count {
         let next = name_at(s, k);
         out[i] = next;
         k += NAME;

@@ -15,10 +15,10 @@ use Rattle.image.proofs.check.each_register_taken.Statement.{statement}
 use Rattle.image.proofs.check.each_register_taken.Tie as tie
 
 abbrev Inv-loop : tie.InvT-loop
-Inv-loop s at k₀ i₀ k i = Testing registerPart 16 s at k i
+Inv-loop s at count k₀ i₀ k i = Testing registerPart count s at k i
 
 abbrev μ-loop : tie.MeasureT-loop
-μ-loop s at k₀ i₀ k i = 16 - i
+μ-loop s at count k₀ i₀ k i = count - i
 
 loop-holds : tie.Need-loop-holds Inv-loop μ-loop
 loop-holds c = testing-none (c .before .pre)

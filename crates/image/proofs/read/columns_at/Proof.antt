@@ -3,13 +3,14 @@ use mathlib.Core.Path.{refl}
 use native.Mathlib.Omega.{arith}
 use Rattle.image.specs.Layout.{columnsPart}
 use Rattle.image.proofs.CodecLaws.{got-both, got-fields}
+use Rattle.image.proofs.LoopLaws.{firsts-all}
 use Rattle.image.proofs.Sizes.{sizes}
 use Rattle.image.proofs.read.columns_at.Statement.{statement}
 use Rattle.image.proofs.read.columns_at.Tie as tie
 
 returns : tie.Need-returns
 unfolding columnsPart
-returns c = got-fields _ _ (got-both (c .before .eight-at .ensures) refl (c .each-column-at .ensures))
+returns c = got-fields _ _ (got-both (c .before .eight-at .ensures) refl (firsts-all (c .each-column-at .ensures)))
 
 pub columns-at-spec : {M : Type 1} → statement M
-columns-at-spec = tie.close (tie.spec (λ c κs. let z = sizes in omega arith) (λ c. let z = sizes in omega arith) (λ c κs. let z = sizes in omega arith) returns)
+columns-at-spec = tie.close (tie.spec (λ c κs. let z = sizes in omega arith) (λ c. let z = sizes in omega arith) (λ c κs. let z = sizes in (omega arith, omega arith)) returns)

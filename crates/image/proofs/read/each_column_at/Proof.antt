@@ -2,35 +2,32 @@
 use Prim.Native.Nat.{_-_}
 use native.Mathlib.Omega.{arith}
 use Rattle.image.specs.Layout.{namePart}
-use Rattle.image.proofs.LoopLaws.{Getting, getting-none, getting-room, getting-more, getting-all}
+use Rattle.image.proofs.LoopLaws.{Getting, getting-none, getting-room, getting-more, getting-firsts}
 use Rattle.image.proofs.Sizes.{sizes}
 use borrow.Author.Needs.{needs}
 use Rattle.image.proofs.read.each_column_at.Statement.{statement}
 use Rattle.image.proofs.read.each_column_at.Tie as tie
 
 abbrev Inv-loop : tie.InvT-loop
-Inv-loop s at out₀ k₀ i₀ out k i = Getting namePart 16 s at out k i
+Inv-loop s at count out₀ k₀ i₀ out k i = Getting namePart 16 count s at out k i
 
 abbrev μ-loop : tie.MeasureT-loop
-μ-loop s at out₀ k₀ i₀ out k i = 16 - i
-
-name-at-requires : tie.Need-name-at-requires Inv-loop μ-loop
-name-at-requires c κs = let z = sizes in omega (arith, c .before .pre)
+μ-loop s at count out₀ k₀ i₀ out k i = count - i
 
 loop-holds : tie.Need-loop-holds Inv-loop μ-loop
-loop-holds c = getting-none (search needs) (c .before .before .pre)
+loop-holds c = getting-none (search needs) (c .before .pre .0) (c .before .pre .1)
 
-name-at-requires-2 : tie.Need-name-at-requires-2 Inv-loop μ-loop
-name-at-requires-2 c κs = getting-room (c .before .loop .inv) (c .loop-test .taken)
+name-at-requires : tie.Need-name-at-requires Inv-loop μ-loop
+name-at-requires c κs = getting-room (c .before .loop .inv) (c .loop-test .taken)
 
 add-k : tie.Need-add-k Inv-loop μ-loop
 add-k c = let z = sizes in omega (arith, getting-room (c .before .before .loop .inv) (c .before .loop-test .taken))
 
 loop-again : tie.Need-loop-again Inv-loop μ-loop
-loop-again c = getting-more (c .before .before .loop .inv) 6 (sizes .name-size) (c .before .loop-test .taken) (c .name-at2 .ensures)
+loop-again c = getting-more (c .before .before .loop .inv) 6 (sizes .name-size) (c .before .loop-test .taken) (c .name-at .ensures)
 
 returns : tie.Need-returns Inv-loop μ-loop
-returns c = getting-all (c .before .loop .inv) (c .loop-test .left)
+returns c = getting-firsts (c .before .loop .inv) (c .loop-test .left)
 
 pub each-column-at-spec : {M : Type 1} → statement M
-each-column-at-spec = tie.close (tie.spec Inv-loop μ-loop name-at-requires loop-holds name-at-requires-2 (λ c. search needs) (λ c. search needs) add-k (λ c. search needs) (λ c. search needs) loop-again returns)
+each-column-at-spec = tie.close (tie.spec Inv-loop μ-loop loop-holds name-at-requires (λ c. search needs) (λ c. search needs) add-k (λ c. search needs) (λ c. search needs) loop-again returns)
