@@ -6,6 +6,7 @@ use mathlib.Core.Path.{_≡_}
 use mathlib.Core.Bool.{Bool, true, false}
 use mathlib.Core.List.{List}
 use Prim.Native.Nat.{ℕ}
+use lib.ListN.{length}
 use Rattle.model.specs.Periods.{listed}
 use Rattle.model.specs.State.{newMeter}
 use Rattle.model.specs.Calls.{Lent, Call}
@@ -18,7 +19,7 @@ use Rattle.p2.specs.declared.Received.{Received}
 use Rattle.p2.specs.Promise.{Answered}
 use Rattle.image.specs.declared.ImageRead.{ImageRead}
 use Rattle.image.specs.declared.Status.the-variants.{Whole}
-use Rattle.image.specs.Image.{imageOf, meterOf, statusOf, readImage}
+use Rattle.image.specs.Image.{imageSize, imageOf, meterOf, statusOf, readImage}
 use Rattle.capi.specs.Refusals.{ownRefusal, newRefusal, newSized}
 
 -- the image of this very meter is read
@@ -59,6 +60,12 @@ pub record OwnerCalled (good : Bool) (c : Call) (s e : List ℕ) (n : ℕ) : Typ
   pub called : ownRefusal (statusOf s) good ≡ 0 → Owns c s e n
   pub kept : (n ≡ 0 → ⊥) → e ≡ s
 
+-- the end of an owner's call, in a buffer of the right length: the meter handed back is written where the call is accepted
+pub record Ends (r : Changed) (s e : List ℕ) (n : ℕ) : Type 0 where
+  pub number : n ≡ r .refusal
+  pub written : length s ≡ imageSize → n ≡ 0 → (e ≡ imageOf (r .meter)) × (readImage e ≡ whole (r .meter))
+  pub kept : (n ≡ 0 → ⊥) → e ≡ s
+
 -- The frame call: the reply room held l and holds o afterwards, and k bytes of it go out.
 
 -- the refusals of document 01 after which the meter is unchanged are `keeping`
@@ -69,6 +76,13 @@ pub record Receives (a : Lent) (s e l o : List ℕ) (k n : ℕ) : Type 0 where
   pub count : k ≡ result .count
   pub written : listed n keeping ≡ false → e ≡ imageOf (result .meter)
   pub read : readImage e ≡ whole (result .meter)
+
+-- the end of a frame call, likewise
+pub record FrameEnds (r : Received) (s e : List ℕ) (n : ℕ) : Type 0 where
+  pub number : n ≡ r .refusal
+  pub written :
+      length s ≡ imageSize → listed n keeping ≡ false → (e ≡ imageOf (r .meter)) × (readImage e ≡ whole (r .meter))
+  pub kept : listed n keeping ≡ true → e ≡ s
 
 -- the library refuses by number n: nothing goes out, nothing changes
 pub record Silent (s e l o : List ℕ) (k : ℕ) : Type 0 where

@@ -1,10 +1,232 @@
 // Birlimock for firmware in C and Rust: every call works on a state buffer that holds the image of a meter, and answers a
-// number. include/birlimock.h has the calls as C sees them.
-// The library's own refusals, answered before a call is made.
-pub const WRONG_STATE_SIZE: u8 = 101;
+// number. The library's own refusals come first: of the state buffer, then of an argument. Then the call of that name is made
+// on the meter in the buffer, and where it is accepted the changed meter is written back; a refused call writes nothing.
+// include/birlimock.h has the calls as C sees them.
+mod lent;
+mod own;
 
-pub const WRONG_VERSION: u8 = 102;
+use image::CLOCK;
+use image::NAME;
+use image::REGISTER;
+use image::SIZE;
+use meter::Changed;
+use meter::Meter;
+use own::WRONG_STATE_SIZE;
+use own::argument_refusal;
+use own::own_refusal;
+use p2::Received;
+ghost use mathlib.Core.Path.{_≡_};
+ghost use mathlib.Core.Bool.{true};
+ghost use lib.Dec.{eqb};
+ghost use lib.ListN.{length};
+ghost use Rattle.model.specs.Calls.{Call};
+ghost use Rattle.image.specs.Layout.{namePart, registerPart};
+ghost use Rattle.image.specs.Lists.{listIn, wholeList};
+ghost use Rattle.image.specs.Image.{imageSize};
+ghost use Rattle.p2.specs.Promise.{lent};
+ghost use Rattle.capi.specs.Refusals.{isFlag, sized};
+ghost use Rattle.capi.specs.Promises.{Ends, FrameCalled, FrameEnds, NewCalled, OwnerCalled};
 
-pub const NO_STATE: u8 = 103;
+// How many bytes a state buffer has.
+#[no_mangle]
+pub extern "C" fn birlimock_state_size() -> usize
+    ensures { λ r. ⌜ r ≡ imageSize ⌝ }
+{
+    SIZE
+}
 
-pub const WRONG_ARGUMENT: u8 = 104;
+// A new meter, whatever the buffer held. Refusals 101 and 104.
+#[no_mangle]
+pub extern "C" fn birlimock_new(
+    state: &mut [u8],
+    device: &[u8],
+    title: &[u8],
+    v_title: &[u8],
+    h_title: &[u8],
+) -> u8
+    ensures { λ r. ⌜ NewCalled (now (device .entry)) (now (title .entry)) (now («v_title» .entry)) (now («h_title» .entry)) (now (state .entry)) (now (state .exit)) r ⌝ }
+{
+    if state.len() != SIZE {
+        return WRONG_STATE_SIZE;
+    }
+    let n = argument_refusal(lent::are_sized(device, title, v_title, h_title));
+    if n != 0 {
+        return n;
+    }
+    let meter = Meter::new(
+        lent::sixteen_of(device),
+        lent::eight_of(title),
+        lent::eight_of(v_title),
+        lent::eight_of(h_title),
+    );
+    image::write_image(meter, state);
+    0
+}
+
+// Registers are given anew. Refusals 101 to 104, 3 and 16.
+#[no_mangle]
+pub extern "C" fn birlimock_give_registers(state: &mut [u8], registers: &[u8]) -> u8
+    ensures { λ r. ⌜ OwnerCalled (wholeList registerPart (now (registers .entry))) (Call.giveRegisters (listIn registerPart (now (registers .entry)))) (now (state .entry)) (now (state .exit)) r ⌝ }
+{
+    let read = image::read_image(state);
+    let status = read.status;
+    let n = own_refusal(status, image::are_registers(registers));
+    if n != 0 {
+        return n;
+    }
+    let items = image::registers_in(registers);
+    let count = registers.len() / REGISTER;
+    let meter = read.meter;
+    let changed = meter.give_registers(items, count);
+    end(changed, state)
+}
+
+// The value of a register is set. Refusals 101 to 104, 3 and 17.
+#[no_mangle]
+pub extern "C" fn birlimock_set_value(state: &mut [u8], name: &[u8], value: u32) -> u8
+    ensures { λ r. ⌜ OwnerCalled (sized 6 (now (name .entry))) (Call.setValue (record { bytes = now (name .entry) }) value) (now (state .entry)) (now (state .exit)) r ⌝ }
+{
+    let read = image::read_image(state);
+    let status = read.status;
+    let n = own_refusal(status, name.len() == NAME);
+    if n != 0 {
+        return n;
+    }
+    let meter = read.meter;
+    let changed = meter.set_value(lent::name_of(name), value);
+    end(changed, state)
+}
+
+// Columns are set. Refusals 101 to 104, 3 and 18.
+#[no_mangle]
+pub extern "C" fn birlimock_set_columns(state: &mut [u8], names: &[u8]) -> u8
+    ensures { λ r. ⌜ OwnerCalled (wholeList namePart (now (names .entry))) (Call.setColumns (listIn namePart (now (names .entry)))) (now (state .entry)) (now (state .exit)) r ⌝ }
+{
+    let read = image::read_image(state);
+    let status = read.status;
+    let n = own_refusal(status, image::are_names(names));
+    if n != 0 {
+        return n;
+    }
+    let items = image::names_in(names);
+    let count = names.len() / NAME;
+    let meter = read.meter;
+    let changed = meter.set_columns(items, count);
+    end(changed, state)
+}
+
+// The capture period is set. Refusals 101 to 103, 3 and 15.
+#[no_mangle]
+pub extern "C" fn birlimock_set_period(state: &mut [u8], period: u32) -> u8
+    ensures { λ r. ⌜ OwnerCalled true (Call.setPeriod period) (now (state .entry)) (now (state .exit)) r ⌝ }
+{
+    let read = image::read_image(state);
+    let status = read.status;
+    let n = own_refusal(status, true);
+    if n != 0 {
+        return n;
+    }
+    let meter = read.meter;
+    let changed = meter.set_period(period);
+    end(changed, state)
+}
+
+// The clock moves on. Refusals 101 to 104, 3 and 14.
+#[no_mangle]
+pub extern "C" fn birlimock_tick(state: &mut [u8], clock: &[u8]) -> u8
+    ensures { λ r. ⌜ OwnerCalled (sized 12 (now (clock .entry))) (Call.tick (record { bytes = now (clock .entry) })) (now (state .entry)) (now (state .exit)) r ⌝ }
+{
+    let read = image::read_image(state);
+    let status = read.status;
+    let n = own_refusal(status, clock.len() == CLOCK);
+    if n != 0 {
+        return n;
+    }
+    let meter = read.meter;
+    let changed = meter.tick(lent::clock_of(clock));
+    end(changed, state)
+}
+
+// The P5 flag is set by 1 and cleared by 0. Refusals 101 to 104 and 3.
+#[no_mangle]
+pub extern "C" fn birlimock_set_p5(state: &mut [u8], held: u8) -> u8
+    ensures { λ r. ⌜ OwnerCalled (isFlag held) (Call.setP5 (eqb held 1)) (now (state .entry)) (now (state .exit)) r ⌝ }
+{
+    let read = image::read_image(state);
+    let status = read.status;
+    let n = own_refusal(status, held < 2);
+    if n != 0 {
+        return n;
+    }
+    let meter = read.meter;
+    let changed = meter.set_p5(held == 1);
+    end(changed, state)
+}
+
+// Power-up. Refusals 101 to 103 and 3.
+#[no_mangle]
+pub extern "C" fn birlimock_power_up(state: &mut [u8]) -> u8
+    ensures { λ r. ⌜ OwnerCalled true Call.powerUp (now (state .entry)) (now (state .exit)) r ⌝ }
+{
+    let read = image::read_image(state);
+    let status = read.status;
+    let n = own_refusal(status, true);
+    if n != 0 {
+        return n;
+    }
+    let meter = read.meter;
+    let changed = meter.power_up();
+    end(changed, state)
+}
+
+// A frame is received; `sent` is how many bytes of the reply room go out. Refusals 101 to 103, then 1 to 13.
+#[no_mangle]
+pub extern "C" fn birlimock_receive(
+    state: &mut [u8],
+    frame: &[u8],
+    guk: &[u8],
+    ak: &[u8],
+    challenge: &[u8],
+    reply: &mut [u8],
+    sent: &mut usize,
+) -> u8
+    ensures { λ r. ⌜ FrameCalled (lent (length (now (reply .entry))) (now (guk .entry)) (now (ak .entry)) (now (challenge .entry)) (now (frame .entry))) (now (state .entry)) (now (state .exit)) (now (reply .entry)) (now (reply .exit)) (now (sent .exit)) r ⌝ }
+{
+    *sent = 0;
+    let read = image::read_image(state);
+    let status = read.status;
+    let n = own_refusal(status, true);
+    if n != 0 {
+        return n;
+    }
+    let meter = read.meter;
+    let received = p2::receive(meter, frame, guk, ak, challenge, reply);
+    *sent = received.count;
+    frame_end(received, state)
+}
+
+// The end of an owner's call: its number, and the changed meter in the buffer where it is accepted.
+fn end(changed: Changed, state: &mut [u8]) -> u8
+    ensures { λ r. ⌜ Ends changed (now (state .entry)) (now (state .exit)) r ⌝ }
+{
+    let n = changed.refusal;
+    if n != 0 {
+        return n;
+    }
+    let meter = changed.meter;
+    image::write_image(meter, state);
+    0
+}
+
+// The end of a frame call: its number, and the meter in the buffer unless the refusal is one that leaves it unchanged.
+fn frame_end(received: Received, state: &mut [u8]) -> u8
+    ensures { λ r. ⌜ FrameEnds received (now (state .entry)) (now (state .exit)) r ⌝ }
+{
+    let n = received.refusal;
+    if own::leaves_meter(n) {
+        return n;
+    }
+    let meter = received.meter;
+    image::write_image(meter, state);
+    n
+}

@@ -2,7 +2,7 @@
 use mathlib.Core.Path.{_≡_, refl, sym, ap, _∙_}
 use mathlib.Core.Bool.{Bool, true, false, _&&_, and-true}
 use mathlib.Core.List.{List}
-use Prim.Native.Nat.{ℕ, _+_, _*_, _/_, _%_, _≤_, _<_}
+use Prim.Native.Nat.{ℕ, zero, suc, _+_, _*_, _/_, _%_, _≤_, _<_}
 use native.Mathlib.Nat.{div-mul-le-self}
 use native.Mathlib.Omega.{arith}
 use lib.Dec.{eqb}
@@ -45,3 +45,19 @@ module _ {A : Type 0} (c : Codec A) {z : ℕ} (q : c .size ≡ z) (s : List ℕ)
 
     pub begins-cut : {n at : ℕ} → places < length s / z → Firsts c places n s at xs → Begins c places s xs
     begins-cut h f = record { full = f .full; are = λ k. absurd (omega (arith, same-count)) }
+
+-- as many records as are counted
+pub length-values : {A : Type 0} (c : Codec A) (n : ℕ) (s : List ℕ) → length (values c n s) ≡ n
+unfolding values
+length-values c zero s = refl
+length-values c (suc n) s = ap suc (length-values c n (drop (c .size) s))
+
+pub length-list : {A : Type 0} (c : Codec A) {z : ℕ} → c .size ≡ z → (s : List ℕ) → length (listIn c s) ≡ length s / z
+unfolding listIn
+length-list c q s = length-values c (length s / c .size) s ∙ ap (λ (n : ℕ). length s / n) q
+
+-- the records that an array begins with
+pub begun : {A : Type 0} (c : Codec A) {z : ℕ} → c .size ≡ z → (s : List ℕ) {places : ℕ} {xs : List A} → Begins c places s xs → length s / z ≤ places → take (length s / z) xs ≡ listIn c s
+begun c q s {xs = xs} b h =
+    let e = ap (λ (n : ℕ). length s / n) q in
+    ap (λ (n : ℕ). take n xs) (sym e) ∙ b .are (omega (arith, e))

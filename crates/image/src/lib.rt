@@ -11,6 +11,9 @@ pub use lists::are_registers;
 pub use lists::names_in;
 pub use lists::registers_in;
 use meter::Meter;
+pub use read::CLOCK;
+pub use read::NAME;
+pub use read::REGISTER;
 ghost use mathlib.Core.Path.{_≡_};
 ghost use Rattle.image.specs.Image.{blankMeter, readImage, Writes};
 

@@ -1,0 +1,14 @@
+-- `capi::end` meets its contract.
+use Rattle.capi.proofs.CallLaws.{ends-refused, ends-written}
+use borrow.Author.Needs.{needs}
+use Rattle.capi.proofs.end.Statement.{statement}
+use Rattle.capi.proofs.end.Tie as tie
+
+returns : tie.Need-returns
+returns c = ends-refused (c .if1 .taken)
+
+returns-2 : tie.Need-returns-2
+returns-2 c = ends-written (c .before .before .before .before .before .if1 .left) (c .before .before .write-image .ensures)
+
+pub end-spec : {M : Type 1} → statement M
+end-spec = tie.close (tie.spec returns (λ c κs. search needs) (λ c. search needs) returns-2)
