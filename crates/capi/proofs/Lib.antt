@@ -1,2 +1,3 @@
 pub mod GivenLaws
 pub mod CallLaws
+pub mod RunLaws

@@ -1,0 +1,46 @@
+-- Demand 3 of the static library as it runs: the frame call and all owner's calls, each by its own `ensures`, in any list of calls on
+-- a state buffer in which each finds the buffer as the last one left it. A call that the library itself refuses is no call on the
+-- meter: it changes nothing, and its number tells lengths, the version and flags alone.
+use mathlib.Core.Path.{_≡_}
+use mathlib.Core.Bool.{true}
+use mathlib.Core.List.{List, [], _∷_, map}
+use Prim.Native.Nat.{ℕ}
+use Rattle.model.specs.Calls.{Lent, Call, frame}
+use Rattle.model.specs.Demand3.{Chosen, Alike, AlikeCalls, SameOutcomes, Handed, seen}
+use Rattle.meter.specs.declared.Meter.{Meter}
+use Rattle.meter.specs.View.{view}
+use Rattle.protocol.specs.Decide.{p2}
+use Rattle.image.specs.declared.Status.the-variants.{Whole}
+use Rattle.image.specs.Image.{meterOf, statusOf}
+use Rattle.capi.specs.Promises.{OwnerCalled, FrameCalled}
+
+-- what a call hands back: its number, how many bytes go out, the meter in the buffer, and the reply room before and after
+abbrev pub handedBack : (n k : ℕ) → (e before after : List ℕ) → Handed Meter view
+handedBack n k e l o = record { refusal = n; count = k; meter = meterOf e; before = l; after = o }
+
+-- a call of the library, from what the buffer held to what it holds
+pub data Library (s e : List ℕ) : Call → Handed Meter view → Type 0 where
+  receives : (a : Lent) (l o : List ℕ) (k n : ℕ) → FrameCalled a s e l o k n → Library s e (frame a) (handedBack n k e l o)
+  owns : (c : Call) (n : ℕ) → OwnerCalled true c s e n → Library s e c (handedBack n 0 e [] [])
+
+-- a list of calls is made
+pub data LibraryRuns : (state : List ℕ) → List Call → List (Handed Meter view) → Type 0 where
+  none : {s : List ℕ} → LibraryRuns s [] []
+  more :
+      {s : List ℕ} {c : Call} {h : Handed Meter view} {cs : List Call} {hs : List (Handed Meter view)} (e : List ℕ)
+      → Library s e c h
+      → LibraryRuns e cs hs
+      → LibraryRuns s (c ∷ cs) (h ∷ hs)
+
+-- two buffers with whole images of meters that are alike but for the chosen registers, the same list of calls, whatever the two
+-- runs hand back: the same numbers and lengths, and the same bytes but for granted reads
+abbrev pub LibraryDemand3 : Type 0
+LibraryDemand3 =
+    (ch : Chosen) (s₁ s₂ : List ℕ) (cs₁ cs₂ : List Call) (hs₁ hs₂ : List (Handed Meter view))
+    → statusOf s₁ ≡ Whole
+    → statusOf s₂ ≡ Whole
+    → Alike ch (view (meterOf s₁)) (view (meterOf s₂))
+    → AlikeCalls ch cs₁ cs₂
+    → LibraryRuns s₁ cs₁ hs₁
+    → LibraryRuns s₂ cs₂ hs₂
+    → SameOutcomes p2 ch cs₁ (view (meterOf s₁)) (map (seen Meter view) hs₁) (map (seen Meter view) hs₂)
