@@ -146,7 +146,7 @@ fn frame(meter: Meter, line: &[u8], from: Cursor, reply: &mut [u8]) -> Done {
     let b = fields::bytes(line, a.cursor, &mut ak);
     let mut challenge = [0u8; MOST];
     let c = fields::bytes(line, b.cursor, &mut challenge);
-    let room = fields::decimal(line, c.cursor, b' ', 4096);
+    let room = fields::decimal(line, c.cursor, b' ', MOST as u32);
     let mut frame = [0u8; MOST];
     let f = fields::bytes(line, room.cursor, &mut frame);
     let end = fields::end(line, f.cursor);
