@@ -1,20 +1,18 @@
 // The calls, a function for each verb: the fields are read to the end of the line, and then the call is made. A line that
 // cannot be read makes no call and leaves the meter as it is.
-use crate::fields;
-use crate::fields::Cursor;
-use crate::lines;
-use crate::lists;
-use crate::verbs;
-use crate::verbs::Verb;
 use image::Status;
 use meter::Changed;
 use meter::Meter;
 use model::Clock;
+use script_text::fields;
+use script_text::fields::Cursor;
+use script_text::lines;
+use script_text::lists;
+use script_text::verbs;
+use script_text::verbs::Verb;
 
-// The most bytes of a byte string and of the reply buffer, and what the reply buffer is filled with before a call.
-pub const MOST: usize = 4096;
-
-pub const FILL: u8 = 0xA5;
+// The most bytes of a byte string and of the reply buffer.
+const MOST: usize = 4096;
 
 // Refusals of an image.
 const WRONG_LENGTH: u8 = 101;

@@ -1,17 +1,14 @@
 // The script program: calls on a meter, read from standard input one a line, each answered by one line on standard output.
-// What a call does is in the libraries; here lines are held, read and answered. docs/SCRIPT.md has the format.
-mod answer;
+// What a call does, and the text of lines and answers, is in the libraries. docs/SCRIPT.md has the format.
 mod calls;
-mod fields;
-mod lines;
-mod lists;
-mod verbs;
 
-use answer::Output;
 use libc::STDERR_FILENO;
 use libc::STDIN_FILENO;
-use lines::LONGEST;
 use meter::Meter;
+use script_text::answer;
+use script_text::answer::Output;
+use script_text::lines;
+use script_text::lines::LONGEST;
 
 // What goes on from one part of the input to the next: the current meter, how many characters of a line are held, the state
 // of the output, whether anything was read yet, and whether there may be more.
@@ -138,7 +135,7 @@ fn answered(mut session: Session, line: &[u8; LONGEST], out: &mut [u8; answer::R
     if lines::is_skipped(line, n) {
         return session;
     }
-    let mut reply = [calls::FILL; calls::MOST];
+    let mut reply = [answer::FILL; answer::REPLY];
     let done = calls::made(
         session.meter,
         lines::first(line, n),
@@ -148,9 +145,9 @@ fn answered(mut session: Session, line: &[u8; LONGEST], out: &mut [u8; answer::R
     let meter = done.meter;
     session.meter = meter;
     let output = if done.column == 0 {
-        answer::line(out, session.output, done.refusal, done.count, &reply)
+        answer::put_answer(out, session.output, done.refusal, done.count, &reply)
     } else {
-        answer::unread(out, session.output, done.column)
+        answer::put_unread(out, session.output, done.column)
     };
     session.output = output;
     session

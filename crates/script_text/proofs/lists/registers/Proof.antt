@@ -1,8 +1,8 @@
--- `script::lists::names` is safe and ends: each turn adds a name.
+-- `script_text::lists::registers` is safe and ends: each turn adds a register.
 use Prim.Native.Nat.{_-_, _≤_}
 use borrow.Author.Needs.{needs}
-use Rattle.script.proofs.lists.names.Statement.{statement}
-use Rattle.script.proofs.lists.names.Tie as tie
+use Rattle.script_text.proofs.lists.registers.Statement.{statement}
+use Rattle.script_text.proofs.lists.registers.Tie as tie
 
 abbrev Inv-loop : tie.InvT-loop
 Inv-loop line list₀ n₀ list n = n ≤ 40
@@ -10,8 +10,8 @@ Inv-loop line list₀ n₀ list n = n ≤ 40
 abbrev μ-loop : tie.MeasureT-loop
 μ-loop line list₀ n₀ list n = 40 - n
 
-pub names-spec : {M : Type 1} → statement M
-names-spec =
+pub registers-spec : {M : Type 1} → statement M
+registers-spec =
     tie.close
     (tie.spec
     Inv-loop

@@ -1,10 +1,10 @@
--- `script::fields::digit_pairs` is safe and ends.
+-- `script_text::fields::digit_pairs` is safe and ends.
 use mathlib.Core.Path.{_≡_}
 use Prim.Native.Nat.{_-_, _≤_}
 use lib.ListN.{length, length-set}
 use borrow.Author.Needs.{needs}
-use Rattle.script.proofs.fields.digit_pairs.Statement.{statement}
-use Rattle.script.proofs.fields.digit_pairs.Tie as tie
+use Rattle.script_text.proofs.fields.digit_pairs.Statement.{statement}
+use Rattle.script_text.proofs.fields.digit_pairs.Tie as tie
 
 abbrev Inv-loop : tie.InvT-loop
 Inv-loop line from out₀ n₀ at₀ out n at = (n ≤ at) × (length out ≡ length out₀)

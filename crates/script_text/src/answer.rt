@@ -1,11 +1,15 @@
 // The answer to a line, written into a buffer that is written out whenever it is full, and when the session asks for it.
-use crate::calls;
 use crate::lines::first;
 use libc::STDOUT_FILENO;
 ghost use Prim.Native.Nat.{_<_};
 
 // How many bytes the buffer has.
 pub const ROOM: usize = 65536;
+
+// How many bytes a reply buffer has, and what it is filled with before a call.
+pub const REPLY: usize = 4096;
+
+pub const FILL: u8 = 0xA5;
 
 const DIGITS: [u8; 16] = *b"0123456789ABCDEF";
 
@@ -35,19 +39,19 @@ pub fn flush(out: &[u8; ROOM], output: Output) -> Output {
 }
 
 // The answer to a line that cannot be read.
-pub fn unread(out: &mut [u8; ROOM], output: Output, column: usize) -> Output {
+pub fn put_unread(out: &mut [u8; ROOM], output: Output, column: usize) -> Output {
     let a = put_all(out, output, b"? ");
     let b = put_decimal(out, a, column as u64);
     put(out, b, b'\n')
 }
 
 // The answer to a call: its number, the reply, and a mark where a byte of the reply buffer after the reply was changed.
-pub fn line(
+pub fn put_answer(
     out: &mut [u8; ROOM],
     output: Output,
     refusal: u8,
     count: usize,
-    reply: &[u8; calls::MOST],
+    reply: &[u8; REPLY],
 ) -> Output {
     let a = put_decimal(out, output, refusal as u64);
     let b = put(out, a, b' ');
@@ -75,7 +79,7 @@ fn is_untouched(s: &[u8]) -> bool {
     let mut differing: u8 = 0;
     let mut i: usize = 0;
     while i < s.len() {
-        differing = differing | (s[i] ^ calls::FILL);
+        differing = differing | (s[i] ^ FILL);
         i += 1;
     }
     differing == 0

@@ -1,9 +1,9 @@
--- `script::lines::append` is safe and ends.
+-- `script_text::lines::append` is safe and ends.
 use Prim.Native.Nat.{_-_, _≤_}
 use lib.ListN.{length}
 use borrow.Author.Needs.{needs}
-use Rattle.script.proofs.lines.append.Statement.{statement}
-use Rattle.script.proofs.lines.append.Tie as tie
+use Rattle.script_text.proofs.lines.append.Statement.{statement}
+use Rattle.script_text.proofs.lines.append.Tie as tie
 
 abbrev Inv-loop : tie.InvT-loop
 Inv-loop line₀ held more n₀ i₀ line n i = i ≤ length more

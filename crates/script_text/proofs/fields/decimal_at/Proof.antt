@@ -1,9 +1,9 @@
--- `script::fields::decimal_at` is safe and ends, and its number is at most the one allowed.
+-- `script_text::fields::decimal_at` is safe and ends, and its number is at most the one allowed.
 use Prim.Native.Nat.{_-_, _≤_}
 use lib.ListN.{length}
 use borrow.Author.Needs.{needs}
-use Rattle.script.proofs.fields.decimal_at.Statement.{statement}
-use Rattle.script.proofs.fields.decimal_at.Tie as tie
+use Rattle.script_text.proofs.fields.decimal_at.Statement.{statement}
+use Rattle.script_text.proofs.fields.decimal_at.Tie as tie
 
 abbrev Inv-loop : tie.InvT-loop
 Inv-loop line from most value₀ at₀ value at = value ≤ most

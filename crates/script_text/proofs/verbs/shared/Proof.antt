@@ -1,9 +1,9 @@
--- `script::verbs::shared` is safe and ends.
+-- `script_text::verbs::shared` is safe and ends.
 use Prim.Native.Nat.{_-_, _≤_}
 use lib.ListN.{length}
 use borrow.Author.Needs.{needs}
-use Rattle.script.proofs.verbs.shared.Statement.{statement}
-use Rattle.script.proofs.verbs.shared.Tie as tie
+use Rattle.script_text.proofs.verbs.shared.Statement.{statement}
+use Rattle.script_text.proofs.verbs.shared.Tie as tie
 
 abbrev Inv-loop : tie.InvT-loop
 Inv-loop line word i₀ i = i ≤ length word

@@ -1,9 +1,9 @@
--- `script::answer::is_untouched` is safe and ends.
+-- `script_text::answer::is_untouched` is safe and ends.
 use Prim.Native.Nat.{_-_, _≤_}
 use lib.ListN.{length}
 use borrow.Author.Needs.{needs}
-use Rattle.script.proofs.answer.is_untouched.Statement.{statement}
-use Rattle.script.proofs.answer.is_untouched.Tie as tie
+use Rattle.script_text.proofs.answer.is_untouched.Statement.{statement}
+use Rattle.script_text.proofs.answer.is_untouched.Tie as tie
 
 abbrev Inv-loop : tie.InvT-loop
 Inv-loop s differing₀ i₀ differing i = i ≤ length s

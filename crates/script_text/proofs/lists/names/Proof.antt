@@ -1,8 +1,8 @@
--- `script::lists::registers` is safe and ends: each turn adds a register.
+-- `script_text::lists::names` is safe and ends: each turn adds a name.
 use Prim.Native.Nat.{_-_, _≤_}
 use borrow.Author.Needs.{needs}
-use Rattle.script.proofs.lists.registers.Statement.{statement}
-use Rattle.script.proofs.lists.registers.Tie as tie
+use Rattle.script_text.proofs.lists.names.Statement.{statement}
+use Rattle.script_text.proofs.lists.names.Tie as tie
 
 abbrev Inv-loop : tie.InvT-loop
 Inv-loop line list₀ n₀ list n = n ≤ 40
@@ -10,8 +10,8 @@ Inv-loop line list₀ n₀ list n = n ≤ 40
 abbrev μ-loop : tie.MeasureT-loop
 μ-loop line list₀ n₀ list n = 40 - n
 
-pub registers-spec : {M : Type 1} → statement M
-registers-spec =
+pub names-spec : {M : Type 1} → statement M
+names-spec =
     tie.close
     (tie.spec
     Inv-loop

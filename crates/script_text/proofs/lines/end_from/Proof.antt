@@ -1,9 +1,9 @@
--- `script::lines::end_from` is safe and ends, and its place lies within the bytes.
+-- `script_text::lines::end_from` is safe and ends, and its place lies within the bytes.
 use Prim.Native.Nat.{_-_, _≤_}
 use lib.ListN.{length}
 use borrow.Author.Needs.{needs}
-use Rattle.script.proofs.lines.end_from.Statement.{statement}
-use Rattle.script.proofs.lines.end_from.Tie as tie
+use Rattle.script_text.proofs.lines.end_from.Statement.{statement}
+use Rattle.script_text.proofs.lines.end_from.Tie as tie
 
 abbrev Inv-loop : tie.InvT-loop
 Inv-loop s from i₀ i = (from ≤ i) × (i ≤ length s)
