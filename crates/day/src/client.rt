@@ -1,9 +1,8 @@
 // The home display, "H" of document 01: it links, asks for an association, proves that it holds the keys, reads and leaves. What
-// it tells comes from the bytes of the meter's answers alone; an answer that it cannot read ends its visit with a line.
+// it tells comes from the bytes of the meter's answers alone; an answer that it cannot read ends its talk with a line.
 use crate::frames;
 use crate::frames::Bytes;
 use crate::plug;
-use crate::plug::Plug;
 use crate::text::after;
 use crate::text::first;
 use crate::text::line;
@@ -16,32 +15,32 @@ use model::Counters;
 use wire::End;
 use wire::Field;
 
-// GET of the rows: attribute 2 of the profile, 0.0.21.0.6.255.
-const ROWS: [u8; 13] = *b"\xC0\x01\xC1\x00\x07\x00\x00\x15\x00\x06\xFF\x02\x00";
-
 // GET of the value of 1.0.3.8.0.255.
 const REACTIVE: [u8; 13] = *b"\xC0\x01\xC1\x00\x03\x01\x00\x03\x08\x00\xFF\x02\x00";
 
-// The visit so far: the counters, of which `accepted` is the meter's last and `sent` the display's own; the meter's title and
-// challenge; whether all went well; and two frames as they were sent.
-pub struct Visit {
-    pub plug: Plug,
+// What the home display knows: the counters, of which `accepted` is the meter's last and `sent` its own; the meter's title and
+// challenge; whether all went well; three frames as they were sent; and the text of the answer that has the rows.
+pub struct Talk {
     pub pair: Counters,
     pub title: [u8; 8],
     pub challenge: [u8; 8],
     pub right: bool,
     pub aarq: Bytes,
     pub proof: Bytes,
+    pub get: Bytes,
+    pub text: [u8; 765],
+    pub size: usize,
 }
 
-struct Sent {
-    visit: Visit,
-    count: usize,
+// A request: its frame, and what the home display knows when it has sent it.
+pub struct Made {
+    pub talk: Talk,
+    pub frame: Bytes,
 }
 
 // A sealed answer, opened: its counter and how many bytes its text has.
 struct Heard {
-    visit: Visit,
+    talk: Talk,
     counter: u32,
     size: usize,
 }
@@ -54,19 +53,10 @@ struct Aare {
     envelope: usize,
 }
 
-// A GET, the frame that asked, and the text of the answer.
-pub struct Reading {
-    pub visit: Visit,
-    pub frame: Bytes,
-    pub text: [u8; 765],
-    pub size: usize,
-}
-
-// The link.
-pub fn linked(plug: Plug) -> Visit {
-    let up = frames::link(0x93);
-    let v = Visit {
-        plug,
+// Before the first request.
+pub fn unlinked() -> Talk {
+    let none = frames::none();
+    Talk {
         pair: Counters {
             accepted: 0,
             sent: 199,
@@ -74,43 +64,108 @@ pub fn linked(plug: Plug) -> Visit {
         title: [0; 8],
         challenge: [0; 8],
         right: true,
-        aarq: up,
-        proof: up,
-    };
-    let mut reply = [0u8; 779];
-    let s = send(v, b"a link", up, &mut reply);
-    let next = s.visit;
-    if wire::same(
-        first(&reply, s.count),
-        b"\x7E\xA0\x07\x27\x03\x73\xD8\x96\x7E",
-    ) {
-        return next;
+        aarq: none,
+        proof: none,
+        get: none,
+        text: [0; 765],
+        size: 0,
     }
-    stopped(next, b"the link does not come up")
 }
 
-// The association, as far as the meter's challenge.
-pub fn pending(visit: Visit) -> Visit {
-    if !visit.right {
-        return visit;
+// The request of a step: link, association, proof, rows, a register; then the end of the association and of the link.
+pub fn request(talk: Talk, step: u8) -> Made {
+    match step {
+        0 => sending(talk, frames::link(0x93)),
+        1 => make_aarq(talk),
+        2 => make_proof(talk),
+        3 => make_get(talk),
+        4 => sealed_get(talk, &REACTIVE),
+        5 => sending(talk, frames::plain(b"\x62\x03\x80\x01\x00")),
+        _ => sending(talk, frames::link(0x53)),
     }
-    let pair = visit.pair;
+}
+
+// What comes of the answer to it.
+pub fn hear(talk: Talk, step: u8, reply: &[u8]) -> Talk {
+    match step {
+        0 => confirmed(talk, reply),
+        1 => challenged(talk, frames::apdu_in(reply)),
+        2 => judged(talk, reply),
+        3 => filled(talk, reply),
+        4 => denied(talk, reply),
+        5 => released(talk, frames::apdu_in(reply)),
+        _ => confirmed(talk, reply),
+    }
+}
+
+fn sending(talk: Talk, frame: Bytes) -> Made {
+    Made { talk, frame }
+}
+
+fn make_aarq(talk: Talk) -> Made {
+    let pair = talk.pair;
     let own = counters::take(pair);
     let frame = frames::aarq(keys(), own.number);
-    let mut reply = [0u8; 779];
-    let s = send(visit, b"an association, sealed", frame, &mut reply);
-    let mut v = s.visit;
-    v.aarq = frame;
+    let mut t = talk;
     let now = own.counters;
-    v.pair = now;
-    challenged(v, frames::apdu_in(first(&reply, s.count)))
+    t.pair = now;
+    t.aarq = frame;
+    sending(t, frame)
+}
+
+// The proof takes one counter, and its envelope the next.
+fn make_proof(talk: Talk) -> Made {
+    let pair = talk.pair;
+    let inner = counters::take(pair);
+    let between = inner.counters;
+    let outer = counters::take(between);
+    let challenge = talk.challenge;
+    let frame = frames::proof(keys(), challenge, inner.number, outer.number);
+    let mut t = talk;
+    let now = outer.counters;
+    t.pair = now;
+    t.proof = frame;
+    sending(t, frame)
+}
+
+fn make_get(talk: Talk) -> Made {
+    let m = sealed_get(talk, &frames::ROWS);
+    let mut t = m.talk;
+    let frame = m.frame;
+    t.get = frame;
+    sending(t, frame)
+}
+
+fn sealed_get(talk: Talk, request: &[u8]) -> Made {
+    let pair = talk.pair;
+    let own = counters::take(pair);
+    let frame = frames::get(keys(), own.number, request);
+    let mut t = talk;
+    let now = own.counters;
+    t.pair = now;
+    sending(t, frame)
+}
+
+// UA: the link is up, or down.
+fn confirmed(talk: Talk, reply: &[u8]) -> Talk {
+    if wire::same(reply, b"\x7E\xA0\x07\x27\x03\x73\xD8\x96\x7E") {
+        return talk;
+    }
+    stopped(talk, b"the meter does not confirm the link")
+}
+
+fn released(talk: Talk, apdu: &[u8]) -> Talk {
+    if wire::same(apdu, b"\x63\x03\x80\x01\x00") {
+        return talk;
+    }
+    stopped(talk, b"the meter does not end the association")
 }
 
 // The AARE opened: the meter's title, its counter and its challenge are kept.
-fn challenged(visit: Visit, apdu: &[u8]) -> Visit {
+fn challenged(talk: Talk, apdu: &[u8]) -> Talk {
     let a = read_aare(apdu);
     if !a.right {
-        return stopped(visit, b"the association is not accepted");
+        return stopped(talk, b"the association is not accepted");
     }
     let title = a.title;
     let mut text = [0u8; 765];
@@ -121,25 +176,25 @@ fn challenged(visit: Visit, apdu: &[u8]) -> Visit {
         after(apdu, a.envelope),
         &mut text,
     ) else {
-        return stopped(visit, b"the meter's seal is not right");
+        return stopped(talk, b"the meter's seal is not right");
     };
     if !wire::same(
         first(&text, size),
         b"\x08\x00\x06\x5F\x1F\x04\x00\x00\x00\x15\x03\x00\x00\x07",
     ) {
-        return stopped(visit, b"the meter offers other services");
+        return stopped(talk, b"the meter offers other services");
     }
-    let mut v = visit;
-    let pair = v.pair;
+    let mut t = talk;
+    let pair = t.pair;
     let now = counters::accept(pair, counter);
-    v.pair = now;
-    v.title = title;
+    t.pair = now;
+    t.title = title;
     let challenge = a.challenge;
-    v.challenge = challenge;
+    t.challenge = challenge;
     note(
         b"The meter's seal is right. It sends a challenge: eight bytes that the display has to answer.",
     );
-    v
+    t
 }
 
 // The pieces of an AARE that accepts the home display.
@@ -187,44 +242,19 @@ fn rejected() -> Aare {
     }
 }
 
-// Both have proved themselves.
-pub fn associated(visit: Visit) -> Visit {
-    if !visit.right {
-        return visit;
-    }
-    let pair = visit.pair;
-    let inner = counters::take(pair);
-    let between = inner.counters;
-    let outer = counters::take(between);
-    let challenge = visit.challenge;
-    let frame = frames::proof(keys(), challenge, inner.number, outer.number);
-    let mut reply = [0u8; 779];
-    let s = send(
-        visit,
-        b"entry, with the answer to the challenge",
-        frame,
-        &mut reply,
-    );
-    let mut v = s.visit;
-    v.proof = frame;
-    let now = outer.counters;
-    v.pair = now;
-    judged(v, first(&reply, s.count))
-}
-
 // The meter's own proof, tested.
-fn judged(visit: Visit, reply: &[u8]) -> Visit {
-    let pair = visit.pair;
-    let title = visit.title;
+fn judged(talk: Talk, reply: &[u8]) -> Talk {
+    let pair = talk.pair;
+    let title = talk.title;
     let mut text = [0u8; 765];
-    let h = unsealed(visit, 0xCF, reply, &mut text);
-    let v = h.visit;
-    if !v.right {
-        return v;
+    let h = unsealed(talk, 0xCF, reply, &mut text);
+    let t = h.talk;
+    if !t.right {
+        return t;
     }
     let answer = text_of(&text, h.size);
     let End::At(at) = wire::expect_at(answer, 0, b"\xC7\x01\xC1\x00\x01\x00") else {
-        return stopped(v, b"the meter does not take its answer");
+        return stopped(t, b"the meter does not take its answer");
     };
     if envelope::is_right_proof(
         keys(),
@@ -237,98 +267,50 @@ fn judged(visit: Visit, reply: &[u8]) -> Visit {
         note(
             b"The meter has answered the display's challenge, too: each has proved that it holds the keys.",
         );
-        return v;
+        return t;
     }
-    stopped(v, b"the meter's own answer is wrong")
+    stopped(t, b"the meter's own answer is wrong")
 }
 
-// The rows.
-pub fn read_rows(visit: Visit) -> Reading {
-    read(visit, b"the rows", &ROWS)
+// The text of the answer with the rows is kept.
+fn filled(talk: Talk, reply: &[u8]) -> Talk {
+    let mut text = [0u8; 765];
+    let h = unsealed(talk, 0xD4, reply, &mut text);
+    let mut t = h.talk;
+    t.text = text;
+    t.size = h.size;
+    t
 }
 
-// The register that the home display has no right to.
-pub fn denied(visit: Visit) -> Visit {
-    let r = read(visit, b"the reactive energy", &REACTIVE);
-    let v = r.visit;
-    let text = r.text;
-    let answer = text_of(&text, r.size);
+// The answer about the register that the home display has no right to.
+fn denied(talk: Talk, reply: &[u8]) -> Talk {
+    let mut text = [0u8; 765];
+    let h = unsealed(talk, 0xD4, reply, &mut text);
+    print_code(text_of(&text, h.size));
+    let t = h.talk;
+    t
+}
+
+fn print_code(answer: &[u8]) {
     let End::At(at) = wire::expect_at(answer, 0, b"\xC4\x01\xC1\x01") else {
-        return v;
+        return note(b"The sealed answer is no denial.");
     };
     let Field::Found {
         value: code,
         next: _,
     } = wire::byte_at(answer, at)
     else {
-        return v;
+        return note(b"The sealed answer is cut short.");
     };
     print(b"       The sealed answer is code ");
     right(code as u64, 1);
     line(b"; 3 means that the display has no right to it.");
-    v
-}
-
-// A GET, and the text of its answer; no text, where the visit has ended.
-fn read(visit: Visit, words: &[u8], request: &[u8]) -> Reading {
-    let pair = visit.pair;
-    let own = counters::take(pair);
-    let frame = frames::get(keys(), own.number, request);
-    let mut text = [0u8; 765];
-    if !visit.right {
-        return Reading {
-            visit,
-            frame,
-            text,
-            size: 0,
-        };
-    }
-    let mut reply = [0u8; 779];
-    let s = send(visit, words, frame, &mut reply);
-    let mut v = s.visit;
-    let now = own.counters;
-    v.pair = now;
-    let h = unsealed(v, 0xD4, first(&reply, s.count), &mut text);
-    let next = h.visit;
-    Reading {
-        visit: next,
-        frame,
-        text,
-        size: h.size,
-    }
-}
-
-// The home display leaves: association and link end.
-pub fn left(visit: Visit) -> Visit {
-    if !visit.right {
-        return visit;
-    }
-    let mut reply = [0u8; 779];
-    let release = frames::plain(b"\x62\x03\x80\x01\x00");
-    let a = send(visit, b"the end of the association", release, &mut reply);
-    let v = a.visit;
-    let b = send(v, b"the end of the link", frames::link(0x53), &mut reply);
-    let w = b.visit;
-    w
-}
-
-// A frame goes to the plug.
-fn send(visit: Visit, words: &[u8], frame: Bytes, reply: &mut [u8]) -> Sent {
-    let p = visit.plug;
-    let a = plug::ask(p, words, frame, reply);
-    let next = a.plug;
-    let mut v = visit;
-    v.plug = next;
-    Sent {
-        visit: v,
-        count: a.count,
-    }
 }
 
 // A sealed answer of the meter: it opens, and its counter is a new one.
-fn unsealed(visit: Visit, tag: u8, reply: &[u8], text: &mut [u8; 765]) -> Heard {
-    let title = visit.title;
-    let pair = visit.pair;
+fn unsealed(talk: Talk, tag: u8, reply: &[u8], text: &mut [u8; 765]) -> Heard {
+    let title = talk.title;
+    let pair = talk.pair;
     let apdu = frames::apdu_in(reply);
     let Admission::Admitted { counter, size } = envelope::admit_envelope(
         keys(),
@@ -339,16 +321,16 @@ fn unsealed(visit: Visit, tag: u8, reply: &[u8], text: &mut [u8; 765]) -> Heard 
         text,
     ) else {
         return Heard {
-            visit: stopped(visit, b"a sealed answer does not open"),
+            talk: stopped(talk, b"a sealed answer does not open"),
             counter: 0,
             size: 0,
         };
     };
     let now = counters::accept(pair, counter);
-    let mut v = visit;
-    v.pair = now;
+    let mut t = talk;
+    t.pair = now;
     Heard {
-        visit: v,
+        talk: t,
         counter,
         size,
     }
@@ -367,13 +349,13 @@ fn keys() -> Keys {
     }
 }
 
-fn stopped(visit: Visit, words: &[u8]) -> Visit {
+fn stopped(talk: Talk, words: &[u8]) -> Talk {
     print(b"       The home display stops here: ");
     print(words);
     line(b".");
-    let mut v = visit;
-    v.right = false;
-    v
+    let mut t = talk;
+    t.right = false;
+    t
 }
 
 fn note(words: &[u8]) {

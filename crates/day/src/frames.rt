@@ -10,6 +10,9 @@ pub const TITLE: [u8; 8] = *b"HAN\x00\x00\x00\x00\x00";
 // The home display's challenge.
 pub const CHALLENGE: [u8; 8] = *b"\x4B\x35\x36\x69\x56\x61\x67\x59";
 
+// GET of the rows: attribute 2 of the profile, 0.0.21.0.6.255.
+pub const ROWS: [u8; 13] = *b"\xC0\x01\xC1\x00\x07\x00\x00\x15\x00\x06\xFF\x02\x00";
+
 // Up to 128 bytes, of which the first `count` are meant.
 pub struct Bytes {
     pub items: [u8; 128],
@@ -105,7 +108,7 @@ fn enclosed(keys: Keys, tag: u8, counter: u32, text: &[u8], n: usize) -> Bytes {
     Bytes { items: out, count }
 }
 
-fn none() -> Bytes {
+pub fn none() -> Bytes {
     Bytes {
         items: [0; 128],
         count: 0,

@@ -8,11 +8,11 @@ mod stranger;
 mod table;
 mod text;
 
-use client::Reading;
-use client::Visit;
+use client::Talk;
 use plug::Plug;
 use text::first;
 use text::line;
+use text::print;
 
 // What the arguments ask for.
 enum Request {
@@ -21,14 +21,29 @@ enum Request {
     Other,
 }
 
+// The plug, and what the home display knows.
+struct Scene {
+    plug: Plug,
+    talk: Talk,
+}
+
+// The steps of the home display, up to the last before it leaves and to its end; then those of the stranger.
+const READ: u8 = 5;
+
+const LEFT: u8 = 7;
+
+const CUT_IN: u8 = 9;
+
+const REPEATED: u8 = 16;
+
 fn main() {
     let w = asked_for();
     match w {
         Request::Plain => night(false),
         Request::Frames => night(true),
-        Request::Other => line(
-            b"usage: day [--frames]     --frames shows every frame in hexadecimal",
-        ),
+        Request::Other => {
+            line(b"usage: day [--frames]     --frames shows every frame in hexadecimal")
+        }
     }
 }
 
@@ -49,30 +64,25 @@ fn asked_for() -> Request {
 }
 
 fn night(shown: bool) {
-    line(b"A NIGHT AT THE PLUG OF AN ELECTRICITY METER");
-    line(b"");
-    line(
-        b"It is 25 October 2026. At 03:00 the clock is set back to 02:00, so that 02:30 comes twice.",
-    );
-    line(b"");
     let plug = prepared(shown);
-    line(b"");
-    line(b"2. A home display at the plug, which has the meter's keys");
-    line(b"");
-    line(
-        b"   Each request also goes to a twin of the meter, in which nothing is different but every value. Where both",
+    print(
+        b"\n\
+        2. A home display at the plug, which has the meter's keys\n\
+        \n\
+        \x20  Each request also goes to a twin of the meter, in which nothing is different but every value. Where both\n\
+        \x20  answer with the same bytes, the answer tells nothing of any value.\n\
+        \n\
+        \x20  asked                                          answer of the meter                             tells of values\n",
     );
-    line(b"   answer with the same bytes, the answer tells nothing of any value.");
-    line(b"");
-    plug::heading();
-    let v = client::associated(client::pending(client::linked(plug)));
-    let r = client::read_rows(v);
-    let read = r.visit;
-    let last = client::denied(read);
-    let left = client::left(last);
-    if left.right {
-        shown_rows(r);
-        strangers(r, last, left);
+    let talk = client::unlinked();
+    let read = played(Scene { plug, talk }, 0, READ);
+    let left = played(read, READ, LEFT);
+    let known = left.talk;
+    if known.right {
+        print_rows(known);
+        let p = read.plug;
+        let q = left.plug;
+        intrude(p, q, known);
     }
 }
 
@@ -96,52 +106,95 @@ fn prepared(shown: bool) -> Plug {
     }
 }
 
-fn shown_rows(r: Reading) {
-    line(b"");
-    line(b"3. The rows as the home display has read them, the oldest first");
-    line(b"");
-    let text = r.text;
-    table::print_rows(first(&text, r.size));
-    line(b"");
-    line(b"   * This time stands in two rows. The record number tells which of them was first.");
-}
-
-fn strangers(r: Reading, last: Visit, left: Visit) {
-    line(b"");
-    line(b"4. A stranger without keys, who has recorded every frame of the home display");
-    line(b"");
-    line(b"   While the home display is still associated:");
-    line(b"");
-    plug::heading();
-    let pair = last.pair;
-    let own = counters::take(pair);
-    let p = last.plug;
-    let get = r.frame;
-    let a = stranger::cuts_in(quiet(p), own.number, get);
-    line(b"");
-    line(b"   After the home display has left:");
-    line(b"");
-    plug::heading();
-    let q = left.plug;
-    let aarq = left.aarq;
-    let proof = left.proof;
-    let b = stranger::comes_later(quiet(q), aarq, proof, get);
-    line(
-        b"       The recorded entry is refused because the meter's challenge is a new one each time.",
-    );
-    line(b"");
-    stranger::sum(if a.told { true } else { b.told });
-}
-
-// The plug as a stranger finds it: another challenge is lent, and nothing has been told.
-fn quiet(plug: Plug) -> Plug {
-    let meter = plug.meter;
-    let twin = plug.twin;
-    Plug {
-        meter,
-        twin,
-        challenge: *b"\x91\x0C\x5E\xA2\x33\x7B\xD8\x04",
-        shown: plug.shown,
-        told: false,
+// The steps from one to before another, as long as the home display goes on.
+fn played(scene: Scene, from: u8, to: u8) -> Scene {
+    let mut s = scene;
+    let mut k = from;
+    while k < to {
+        s = stepped(s, k);
+        k += 1;
     }
+    s
+}
+
+fn stepped(scene: Scene, step: u8) -> Scene {
+    let known = scene.talk;
+    if !known.right {
+        return scene;
+    }
+    let p = scene.plug;
+    let mut reply = [0u8; 779];
+    if step < LEFT {
+        let m = client::request(known, step);
+        let a = plug::ask(p, step, m.frame, &mut reply);
+        let next = a.plug;
+        return Scene {
+            plug: next,
+            talk: client::hear(m.talk, step, first(&reply, a.count)),
+        };
+    }
+    let a = plug::ask(p, step, stranger::request(known, step), &mut reply);
+    let next = a.plug;
+    Scene {
+        plug: next,
+        talk: known,
+    }
+}
+
+fn print_rows(known: Talk) {
+    print(b"\n3. The rows as the home display has read them, the oldest first\n\n");
+    let text = known.text;
+    table::print_rows(first(&text, known.size));
+    print(
+        b"\n\
+        \x20  * This time stands in two rows. The record number tells which of them was first.\n",
+    );
+}
+
+// The stranger, at the plug before the home display has left it and after.
+fn intrude(read: Plug, left: Plug, known: Talk) {
+    print(
+        b"\n\
+        4. A stranger without keys, who has recorded every frame of the home display\n\
+        \n\
+        \x20  While the home display is still associated:\n\
+        \n\
+        \x20  asked                                          answer of the meter                             tells of values\n",
+    );
+    let a = played(unknown(read, known), LEFT, CUT_IN);
+    print(
+        b"\n\
+        \x20  After the home display has left:\n\
+        \n\
+        \x20  asked                                          answer of the meter                             tells of values\n",
+    );
+    let b = played(unknown(left, known), CUT_IN, REPEATED);
+    print(
+        b"       The recorded entry is refused because the meter's challenge is a new one each time.\n\n",
+    );
+    let p = a.plug;
+    let q = b.plug;
+    print_sum(p.told, q.told);
+}
+
+// The plug as the stranger finds it: another challenge is lent, and nothing has been told.
+fn unknown(plug: Plug, known: Talk) -> Scene {
+    let mut p = plug;
+    let challenge = *b"\x91\x0C\x5E\xA2\x33\x7B\xD8\x04";
+    p.challenge = challenge;
+    p.told = false;
+    Scene {
+        plug: p,
+        talk: known,
+    }
+}
+
+fn print_sum(first: bool, second: bool) {
+    if first {
+        return line(b"   An answer told the stranger something of a value.");
+    }
+    if second {
+        return line(b"   An answer told the stranger something of a value.");
+    }
+    line(b"   No answer told the stranger anything of a value.");
 }

@@ -34,20 +34,22 @@ pub fn after_night(extra: u32) -> Night {
 
 // What the owner has done, in words.
 pub fn report(refusal: u8) {
-    line(b"1. The meter and its owner");
-    line(b"");
-    line(b"   register                  name              the home display");
-    line(b"   imported, day rate        1.0.1.8.1.255     may read it");
-    line(b"   imported, night rate      1.0.1.8.2.255     may read it");
-    line(b"   exported                  1.0.2.8.0.255     may read it");
-    line(b"   reactive energy           1.0.3.8.0.255     may not read it");
-    line(b"");
-    line(
-        b"   Each quarter of an hour the meter adds a row: a record number, its clock, and the first three registers.",
+    print(
+        b"A NIGHT AT THE PLUG OF AN ELECTRICITY METER\n\
+        \n\
+        It is 25 October 2026. At 03:00 the clock is set back to 02:00, so that 02:30 comes twice.\n\
+        \n\
+        1. The meter and its owner\n\
+        \n\
+        \x20  register                  name              the home display\n\
+        \x20  imported, day rate        1.0.1.8.1.255     may read it\n\
+        \x20  imported, night rate      1.0.1.8.2.255     may read it\n\
+        \x20  exported                  1.0.2.8.0.255     may read it\n\
+        \x20  reactive energy           1.0.3.8.0.255     may not read it\n\
+        \n\
+        \x20  Each quarter of an hour the meter adds a row: a record number, its clock, and the first three registers.\n\
+        \x20  The clock ticks every five minutes from 01:45 to 03:15, and is set back by an hour on the way.\n",
     );
-    print(b"   The clock ticks ");
-    right(TICKS as u64, 1);
-    line(b" times, every five minutes from 01:45 to 03:15, and is set back by an hour on the way.");
     if refusal == 0 {
         return line(b"   All of the owner's calls are accepted.");
     }

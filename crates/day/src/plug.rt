@@ -2,8 +2,8 @@
 // Where both answer with the same number and the same bytes, the answer tells nothing of any value.
 use crate::frames::Bytes;
 use crate::text;
+use crate::text::entry;
 use crate::text::first;
-use crate::text::left;
 use crate::text::line;
 use crate::text::print;
 use meter::Meter;
@@ -29,16 +29,8 @@ pub struct Answer {
     pub count: usize,
 }
 
-// What stands over the lines of requests.
-pub fn heading() {
-    print(b"   ");
-    left(b"asked", 47);
-    left(b"answer of the meter", 48);
-    line(b"tells of values");
-}
-
-// A request is put to both, and a line tells what came of it.
-pub fn ask(plug: Plug, words: &[u8], frame: Bytes, reply: &mut [u8]) -> Answer {
+// The request of a step is put to both, and a line tells what came of it.
+pub fn ask(plug: Plug, step: u8, frame: Bytes, reply: &mut [u8]) -> Answer {
     let items = frame.items;
     let f = first(&items, frame.count);
     let challenge = plug.challenge;
@@ -49,10 +41,9 @@ pub fn ask(plug: Plug, words: &[u8], frame: Bytes, reply: &mut [u8]) -> Answer {
     let s = put(t, f, challenge, &mut other);
     let answer = first(reply, r.count);
     let alike = is_alike(r.refusal, answer, s.refusal, first(&other, s.count));
-    print_line(words, r.refusal, alike);
+    print_line(step, r.refusal, alike);
     if plug.shown {
-        text::frame(b"     asked   ", f);
-        text::frame(b"     answer  ", answer);
+        print_frames(f, answer);
     }
     let meter = r.meter;
     let twin = s.meter;
@@ -80,10 +71,10 @@ fn is_alike(number: u8, answer: &[u8], other: u8, twin: &[u8]) -> bool {
     wire::same(answer, twin)
 }
 
-fn print_line(words: &[u8], number: u8, alike: bool) {
+fn print_line(step: u8, number: u8, alike: bool) {
     print(b"   ");
-    left(words, 45);
-    text::right(wide(number), 4);
+    print_words(step);
+    text::right(wide(number), 3);
     print(b"  ");
     print_meaning(number);
     if alike {
@@ -92,30 +83,58 @@ fn print_line(words: &[u8], number: u8, alike: bool) {
     line(b"something")
 }
 
+fn print_frames(frame: &[u8], answer: &[u8]) {
+    text::frame(b"     asked   ", frame);
+    if answer.len() == 0 {
+        return line(b"     answer   none");
+    }
+    text::frame(b"     answer  ", answer)
+}
+
 fn wide(b: u8) -> u64 {
     b as u64
 }
 
-// What the number of a frame call means, in plain words.
-fn print_meaning(number: u8) {
-    match number {
-        0 => meant(b"accepted"),
-        1 => meant(b"silence: too little room for a reply"),
-        2 => meant(b"silence: a key or the challenge is not whole"),
-        3 => meant(b"silence: the meter's state is not sound"),
-        4 => meant(b"silence: not a whole frame"),
-        5 => meant(b"silence: the frame itself is a rejection"),
-        6 => meant(b"silence: the seal is not right"),
-        7 => meant(b"silence: the counter is not a new one"),
-        8 => meant(b"refused: the frame is too long"),
-        9 => meant(b"refused: the frame is bad"),
-        10 => meant(b"refused: there is no link"),
-        11 => meant(b"refused: the association is not accepted"),
-        12 => meant(b"refused: unknown, or not at this time"),
-        _ => meant(b"refused: the read or the action is denied"),
-    }
+// What is asked in each step: seven of the home display, then two and seven of the stranger.
+fn print_words(step: u8) {
+    entry(
+        b"a link                                        \
+        an association, sealed                        \
+        entry, with the answer to the challenge       \
+        the rows                                      \
+        the reactive energy                           \
+        the end of the association                    \
+        the end of the link                           \
+        the rows, sealed with keys of its own         \
+        the rows, by the recorded frame               \
+        the rows, by the recorded frame               \
+        a link, as if it were the display             \
+        the rows, unsealed                            \
+        an association, sealed with keys of its own   \
+        an association, by the recorded frame         \
+        entry, by the recorded frame                  \
+        the rows, by the recorded frame               ",
+        step,
+    )
 }
 
-fn meant(words: &[u8]) {
-    left(words, 46)
+// What the number of a frame call means.
+fn print_meaning(number: u8) {
+    entry(
+        b"accepted                                      \
+        silence: too little room for a reply          \
+        silence: a key or the challenge is not whole  \
+        silence: the meter's state is not sound       \
+        silence: not a whole frame                    \
+        silence: the frame itself is a rejection      \
+        silence: the seal is not right                \
+        silence: the counter is not a new one         \
+        refused: the frame is too long                \
+        refused: the frame is bad                     \
+        refused: there is no link                     \
+        refused: the association is not accepted      \
+        refused: unknown, or not at this time         \
+        refused: the read or the action is denied     ",
+        number,
+    )
 }

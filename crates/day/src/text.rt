@@ -7,6 +7,9 @@ const DIGITS: [u8; 16] = *b"0123456789ABCDEF";
 // The bytes of a frame on a line.
 const LINE: usize = 32;
 
+// The width of an entry in a table of words.
+const ENTRY: usize = 46;
+
 pub fn print(s: &[u8]) {
     io::write_all(STDOUT_FILENO, s);
 }
@@ -26,12 +29,9 @@ pub fn after(s: &[u8], n: usize) -> &[u8] {
     if n < s.len() { &s[n..] } else { &s[0..0] }
 }
 
-// Words at the left of a column, and spaces up to its width.
-pub fn left(s: &[u8], width: usize) {
-    print(s);
-    if s.len() < width {
-        spaces(width - s.len());
-    }
+// The entry of this number in a table of words, in which each takes 46 bytes.
+pub fn entry(table: &[u8], k: u8) {
+    print(first(after(table, wide(k) * ENTRY), ENTRY));
 }
 
 // A number at the right of a column.
@@ -67,7 +67,7 @@ pub fn kilowatt_hours(watt_hours: u32, width: usize) {
     two(v);
 }
 
-// The bytes of a frame, under a mark that says which way it goes.
+// The bytes of a frame after a mark that says which way it goes.
 pub fn frame(mark: &[u8], s: &[u8]) {
     let mut i: usize = 0;
     while i < s.len() {
@@ -94,6 +94,8 @@ fn hex(v: usize) {
     print(&pair);
 }
 
-fn wide(b: u8) -> usize {
+fn wide(b: u8) -> usize
+    ensures { λ r. ⌜ r < 256 ⌝ }
+{
     b as usize
 }
