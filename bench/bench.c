@@ -18,7 +18,8 @@ int mbedtls_aesni_has_support(unsigned int what)
     return 0;
 }
 
-enum { ROWS = 15, COLUMNS = 6, LONGEST_TEXT = 744, LONGEST_FRAME = 779 };
+/* Fifteen rows of six columns are an answer of 741 bytes: 47 blocks of the cipher, as the longest text of 744 bytes has. */
+enum { ROWS = 15, COLUMNS = 6, ROWS_TEXT = 741, LONGEST_TEXT = 744, LONGEST_FRAME = 779 };
 
 static const uint8_t GUK[16] = {0, 1, 2, 3, 4, 5, 6, 7, 8, 9, 10, 11, 12, 13, 14, 15};
 static const uint8_t AK[16] = {0xD0, 0xD1, 0xD2, 0xD3, 0xD4, 0xD5, 0xD6, 0xD7, 0xD8, 0xD9, 0xDA, 0xDB, 0xDC, 0xDD, 0xDE, 0xDF};
@@ -314,7 +315,7 @@ static void ready_text(void)
 
 static __attribute__((noinline)) void run_seal(void)
 {
-    mbedtls_seal(DEDICATED, nonce_mark, text, sizeof text, opened, mark);
+    mbedtls_seal(DEDICATED, nonce_mark, text, ROWS_TEXT, opened, mark);
 }
 
 static __attribute__((noinline)) void run_open(void)
@@ -339,7 +340,7 @@ static void see_rows(void)
     ready_rows();
     run_rows();
     nonce_of(METER_TITLE, 4, nonce);
-    expect(mbedtls_open(DEDICATED, nonce, reply + 11 + 9, 741, reply + 11 + 9 + 741, plain), "the sealed answer");
+    expect(mbedtls_open(DEDICATED, nonce, reply + 11 + 9, ROWS_TEXT, reply + 11 + 9 + ROWS_TEXT, plain), "the sealed answer");
     expect(plain[0] == 0xC4 && plain[4] == 0x01 && plain[5] == ROWS, "the rows in it");
 }
 
