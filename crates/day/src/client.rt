@@ -1,5 +1,5 @@
 // The home display, "H" of document 01: it links, asks for an association, proves that it holds the keys, reads and leaves. What
-// it tells comes from the bytes of the meter's answers alone; an answer that it cannot read ends its talk with a line.
+// it tells comes from the bytes of the meter's answers alone; an answer that it cannot read ends its visit with a line.
 use crate::frames;
 use crate::frames::Bytes;
 use crate::plug;
@@ -102,6 +102,7 @@ fn sending(talk: Talk, frame: Bytes) -> Made {
     Made { talk, frame }
 }
 
+// The request for an association.
 fn make_aarq(talk: Talk) -> Made {
     let pair = talk.pair;
     let own = counters::take(pair);
@@ -128,6 +129,7 @@ fn make_proof(talk: Talk) -> Made {
     sending(t, frame)
 }
 
+// The GET of the rows is kept as it was sent.
 fn make_get(talk: Talk) -> Made {
     let m = sealed_get(talk, &frames::ROWS);
     let mut t = m.talk;
@@ -337,7 +339,7 @@ fn unsealed(talk: Talk, tag: u8, reply: &[u8], text: &mut [u8; 765]) -> Heard {
 }
 
 // The text of a sealed answer.
-pub fn text_of(room: &[u8; 765], size: usize) -> &[u8] {
+fn text_of(room: &[u8; 765], size: usize) -> &[u8] {
     first(room, size)
 }
 

@@ -2,7 +2,6 @@
 use crate::text::first;
 use envelope::Keys;
 use hdlc::Head;
-ghost use Prim.Native.Nat.{_≤_};
 
 // The title of the home display: "H" of document 01.
 pub const TITLE: [u8; 8] = *b"HAN\x00\x00\x00\x00\x00";

@@ -69,11 +69,13 @@ fn night(shown: bool) {
         b"\n\
         2. A home display at the plug, which has the meter's keys\n\
         \n\
-        \x20  Each request also goes to a twin of the meter, in which nothing is different but every value. Where both\n\
-        \x20  answer with the same bytes, the answer tells nothing of any value.\n\
-        \n\
-        \x20  asked                                          answer of the meter                             tells of values\n",
+        \x20  An association is the agreement under which the display may read. What is sealed is encrypted and marked by\n\
+        \x20  the keys, so that nobody without them can read it or make it. Each request also goes to a twin of the meter,\n\
+        \x20  in which nothing is different but every value: where both answer with the same bytes, the answer tells\n\
+        \x20  nothing of any value.\n\
+        \n",
     );
+    plug::heading();
     let talk = client::unlinked();
     let read = played(Scene { plug, talk }, 0, READ);
     let left = played(read, READ, LEFT);
@@ -157,24 +159,27 @@ fn intrude(read: Plug, left: Plug, known: Talk) {
         b"\n\
         4. A stranger without keys, who has recorded every frame of the home display\n\
         \n\
-        \x20  While the home display is still associated:\n\
+        \x20  Each sealed request has a counter. It has to be above the last one that was accepted, by 180 at most; else\n\
+        \x20  the meter is silent and the association ends.\n\
         \n\
-        \x20  asked                                          answer of the meter                             tells of values\n",
+        \x20  While the home display is still associated:\n\
+        \n",
     );
+    plug::heading();
     let a = played(unknown(read, known), LEFT, CUT_IN);
     print(
         b"\n\
         \x20  After the home display has left:\n\
-        \n\
-        \x20  asked                                          answer of the meter                             tells of values\n",
+        \n",
     );
+    plug::heading();
     let b = played(unknown(left, known), CUT_IN, REPEATED);
     print(
         b"       The recorded entry is refused because the meter's challenge is a new one each time.\n\n",
     );
     let p = a.plug;
     let q = b.plug;
-    print_sum(p.told, q.told);
+    print_sum(if p.told { true } else { q.told });
 }
 
 // The plug as the stranger finds it: another challenge is lent, and nothing has been told.
@@ -189,11 +194,8 @@ fn unknown(plug: Plug, known: Talk) -> Scene {
     }
 }
 
-fn print_sum(first: bool, second: bool) {
-    if first {
-        return line(b"   An answer told the stranger something of a value.");
-    }
-    if second {
+fn print_sum(told: bool) {
+    if told {
         return line(b"   An answer told the stranger something of a value.");
     }
     line(b"   No answer told the stranger anything of a value.");

@@ -8,7 +8,7 @@ use meter::Meter;
 use model::Clock;
 use model::Name;
 use model::Register;
-ghost use Prim.Native.Nat.{_≤_, _<_};
+ghost use Prim.Native.Nat.{_<_};
 
 const TICKS: u32 = 31;
 

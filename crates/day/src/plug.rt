@@ -29,6 +29,13 @@ pub struct Answer {
     pub count: usize,
 }
 
+// What stands over the lines of requests.
+pub fn heading() {
+    line(
+        b"   asked                                          answer of the meter                             tells of values",
+    );
+}
+
 // The request of a step is put to both, and a line tells what came of it.
 pub fn ask(plug: Plug, step: u8, frame: Bytes, reply: &mut [u8]) -> Answer {
     let items = frame.items;
@@ -128,7 +135,7 @@ fn print_meaning(number: u8) {
         silence: not a whole frame                    \
         silence: the frame itself is a rejection      \
         silence: the seal is not right                \
-        silence: the counter is not a new one         \
+        silence: the counter is outside its window    \
         refused: the frame is too long                \
         refused: the frame is bad                     \
         refused: there is no link                     \
