@@ -1,6 +1,6 @@
 //! The calls of include/birlimock.h as the header words them: what each answers on a state buffer, sound or not.
 
-use crate::image::{self, NO_STATE, SIZE, WRONG_SIZE, WRONG_VERSION};
+use crate::image::{self, NO_STATE, WRONG_SIZE, WRONG_VERSION};
 use crate::meter::Meter;
 use crate::receive::{Lent, Outcome};
 
@@ -104,9 +104,4 @@ fn owner_call(meter: &mut Meter, call: &Call) -> Option<u8> {
         Call::PowerUp => meter.power_up(),
         Call::New { .. } | Call::Receive { .. } => unreachable!("answered before"),
     })
-}
-
-/// Whether the call needs a state buffer of the right size alone, whatever it holds.
-pub fn takes_any_state(call: &Call, image: &[u8]) -> bool {
-    matches!(call, Call::New { .. }) && image.len() == SIZE
 }
