@@ -26,6 +26,8 @@ pub struct Parts {
     pub source: u8,
     pub control: u8,
     pub information: Vec<u8>,
+    /// A header check, though nothing may follow it: length 9.
+    pub header_check_always: bool,
     pub header_check_off: u8,
     pub frame_check_off: u8,
     pub flags: (u8, u8),
@@ -40,6 +42,7 @@ impl Parts {
             source,
             control,
             information,
+            header_check_always: false,
             header_check_off: 0,
             frame_check_off: 0,
             flags: (FLAG, FLAG),
@@ -48,11 +51,12 @@ impl Parts {
 
     /// The bytes: checks are right but for what is said to be off.
     pub fn frame(&self) -> Vec<u8> {
-        let full = if self.information.is_empty() { 7 } else { 9 + self.information.len() };
+        let header_check = self.header_check_always || !self.information.is_empty();
+        let full = if header_check { 9 + self.information.len() } else { 7 };
         let length = (full as i32 + self.length_off) as usize & 0x7FF;
         let mut inside = vec![self.format | (length >> 8) as u8, length as u8];
         inside.extend([self.destination, self.source, self.control]);
-        if !self.information.is_empty() {
+        if header_check {
             let [low, high] = sent_check(&inside);
             inside.extend([low ^ self.header_check_off, high]);
             inside.extend(&self.information);
@@ -64,7 +68,7 @@ impl Parts {
 
     /// One field is another than it should be.
     pub fn damage(&mut self, random: &mut Random) {
-        match random.below(11) {
+        match random.below(12) {
             0 => self.format = random.pick(&[0xA8, 0x90, 0xB0, 0x20, 0xE8]),
             1 => self.length_off = random.pick(&[-2, -1, 1, 2, 256, 1024]),
             2 => self.destination = random.pick(&[0x05, 0x01, 0x02, 0xFF, 0xFE, VERIFICATION]),
@@ -75,6 +79,7 @@ impl Parts {
             7 => self.header_check_off = random.pick(&[1, 0x80, 0xFF]),
             8 => self.frame_check_off = random.pick(&[1, 0x80, 0xFF]),
             9 => self.flags = random.pick(&[(FLAG, 0), (0, FLAG), (FLAG ^ 1, FLAG ^ 1)]),
+            10 => (self.header_check_always, self.information) = (true, vec![]),
             _ => self.resize(random),
         }
     }

@@ -12,13 +12,14 @@ pub fn call(random: &mut Random, meter: &Meter) -> Call {
         0..=9 if meter.registers.is_empty() => give_registers(random),
         0..=5 if meter.columns.is_empty() => set_columns(random, meter),
         0 => give_registers(random),
-        1..=2 => set_columns(random, meter),
-        3..=6 => set_value(random, meter),
-        7 => Call::SetPeriod(if random.percent(60) { random.pick(&PERIODS) } else { wrong_period(random) }),
-        8..=16 => Call::Tick(clock(random, meter)),
+        1 => set_columns(random, meter),
+        2..=5 => set_value(random, meter),
+        6 => Call::SetPeriod(if random.percent(60) { random.pick(&PERIODS) } else { wrong_period(random) }),
+        7..=14 => Call::Tick(clock(random, meter)),
         17 => Call::SetP5(random.pick(&[0, 0, 0, 1, 1, 2, 255])),
-        18 if random.percent(60) => Call::Tick(clock(random, meter)),
-        19 if meter.is_sound() => Call::Tick(next_due(meter).to_vec()),
+        15..=16 if meter.is_sound() => Call::Tick(next_due(meter).to_vec()),
+        18 if random.percent(60) => set_value(random, meter),
+        19 => Call::Tick(clock(random, meter)),
         _ => Call::PowerUp,
     }
 }
@@ -86,7 +87,7 @@ fn set_value(random: &mut Random, meter: &Meter) -> Call {
 }
 
 fn set_columns(random: &mut Random, meter: &Meter) -> Call {
-    let count = random.pick(&[0, 1, 5, 6, 6, 7, 8, 16]);
+    let count = random.pick(&[0, 1, 5, 6, 6, 7, 11, 16]);
     let mut names = states::columns(random, &meter.registers, count);
     let place = random.below(names.len().max(1));
     match random.below(8) {

@@ -89,9 +89,10 @@ impl Player<'_> {
             Ciphered::Absent if choice < 90 => self.han_opening(),
             Ciphered::Pending { .. } if choice < 80 => self.challenge_answer(),
             Ciphered::Pending { .. } if choice < 84 => self.release(),
-            Ciphered::Associated { key, .. } if choice < 70 => self.sealed_request(0xD0, key, GET),
-            Ciphered::Associated { key, .. } if choice < 92 => self.sealed_request(0xD3, key, ACTION),
-            Ciphered::Associated { .. } if choice < 95 => self.release(),
+            Ciphered::Associated { agreed, .. } if agreed[2] != 0x15 && choice < 20 => self.release(),
+            Ciphered::Associated { key, .. } if choice < 82 => self.sealed_request(0xD0, key, GET),
+            Ciphered::Associated { key, .. } if choice < 94 => self.sealed_request(0xD3, key, ACTION),
+            Ciphered::Associated { .. } if choice < 96 => self.release(),
             _ => self.untimely(),
         }
     }
@@ -189,12 +190,13 @@ impl Player<'_> {
     fn request(&mut self, service: u8, wanted: Option<Name>) -> Vec<u8> {
         let (name, class) = match wanted {
             Some(name) => (name, 1),
-            None if service == ACTION && self.random.percent(60) => self.random.pick(&[(PROFILE, 7), (RECORD_NUMBER, 3)]),
+            None if service == ACTION && self.random.percent(60) => (RECORD_NUMBER, 3),
             None => object(self.random, self.meter),
         };
         let any = self.random.byte();
         let class = if self.random.percent(3) { self.random.pick(&[0, 1, 3, 7, 8, 15, 0x0103, 0x0700]) } else { class };
         let number = match service {
+            GET if name == PROFILE => self.random.pick(&[2, 2, 2, 2, 2, 2, 2, 2, 1, any]),
             GET => self.random.pick(&[1, 1, 2, 2, 2, 2, 2, 2, 2, 2, 2, 2, 3, 3, 0, 4, any]),
             _ => self.random.pick(&[1, 1, 1, 1, 1, 1, 1, 0, 2, any]),
         };
@@ -205,13 +207,13 @@ impl Player<'_> {
 
     /// What stands behind the target: nothing, a selector or a parameter.
     fn addition(&mut self, service: u8, name: Name) -> Vec<u8> {
-        let rows = self.meter.rows.len();
+        let (rows, columns) = (self.meter.rows.len(), self.meter.columns.len());
         let any = self.random.byte();
         match self.random.below(20) {
             0 => vec![any],
             1 if service == GET => [&[0x01, self.random.pick(&[1, 1, 0, 2, 255])], &value(self.random)[..]].concat(),
-            2 if service == GET => [&[0x01, self.random.pick(&[1, 2, 0])], &entries(self.random, rows)[..]].concat(),
-            3..=10 if service == GET && name == PROFILE => [&[0x01, 0x01], &entries(self.random, rows)[..]].concat(),
+            2 if service == GET => [&[0x01, self.random.pick(&[1, 2, 0])], &entries(self.random, rows, columns)[..]].concat(),
+            3..=10 if service == GET && name == PROFILE => [&[0x01, 0x01], &entries(self.random, rows, columns)[..]].concat(),
             1..=2 => [&[0x01], &value(self.random)[..]].concat(),
             3..=8 if service != GET => vec![0x01, 0x0F, any],
             _ => vec![0x00],

@@ -55,7 +55,11 @@ impl Run {
                 let clause = random.pick(&CLAUSES);
                 (states::unsound(random, clause), 4)
             }
-            6..=8 => (random.bytes(SIZE), 100),
+            6 => (random.bytes(SIZE), 120),
+            7..=9 => {
+                let meter = states::readable(random);
+                (states::image(random, &meter), 20)
+            }
             _ => {
                 let meter = states::sound(random);
                 (states::image(random, &meter), random.pick(&[10, 30, 60]))

@@ -115,10 +115,12 @@ pub fn sound(random: &mut Random) -> Meter {
     let period = random.pick(&PERIODS);
     let register_count = random.pick(&[0, 1, 3, 6, 8, 12, MOST_REGISTERS, MOST_REGISTERS]);
     let registers = registers(random, register_count);
-    let column_count = random.pick(&[0, 1, 3, 5, 6, 6, 7, 8, 12, MOST_COLUMNS]);
+    let any = random.between(0, MOST_COLUMNS);
+    let column_count = random.pick(&[0, 1, 6, 6, 7, 11, any, any, MOST_COLUMNS]);
     let columns = columns(random, &registers, column_count);
     let record_number: u16 = random.pick(&[0, 1, 65533, 65534, 65535, 500]);
-    let row_count = random.pick(&[0, 1, 7, 12, MOST_ROWS - 1, MOST_ROWS, MOST_ROWS, MOST_ROWS]);
+    let any = random.between(0, MOST_ROWS);
+    let row_count = random.pick(&[0, 1, 10, any, any, MOST_ROWS - 1, MOST_ROWS, MOST_ROWS]);
     let rows = (0..row_count).map(|i| row(random, period, record_number.wrapping_sub(i as u16), columns.len()));
     let rows = rows.collect();
     Meter {
@@ -153,6 +155,19 @@ fn han(random: &mut Random) -> Han {
     };
     let linked = association != Ciphered::Absent || random.percent(70);
     Han { title: random.array(), linked, association, accepted: counter(random), sent: counter(random) }
+}
+
+/// A sound meter with H associated for all services, any number of columns and any number of rows.
+pub fn readable(random: &mut Random) -> Meter {
+    let mut meter = sound(random);
+    meter.registers = registers(random, MOST_REGISTERS);
+    let column_count = random.between(0, MOST_COLUMNS);
+    meter.columns = columns(random, &meter.registers, column_count);
+    let row_count = random.between(0, MOST_ROWS);
+    meter.rows = (0..row_count).map(|i| row(random, meter.period, i as u16, column_count)).collect();
+    meter.han.linked = true;
+    meter.han.association = Ciphered::Associated { agreed: OFFERED_CIPHERED, key: random.array() };
+    meter
 }
 
 /// The image of a meter; what the meter does not hold is any bytes that an image may have there.

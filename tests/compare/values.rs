@@ -59,12 +59,21 @@ fn chain(random: &mut Random) -> Vec<u8> {
     bytes
 }
 
-/// The descriptor of an entry selection, sometimes with other numbers or of another shape.
-pub fn entries(random: &mut Random, rows: usize) -> Vec<u8> {
+/// How many rows of so many columns an answer of 740 bytes holds.
+fn rows_that_fit(columns: usize) -> u32 {
+    ((740 - 2) / (19 + 5 * columns)) as u32
+}
+
+/// The descriptor of an entry selection of a profile with so many rows and columns, sometimes with other numbers or of
+/// another shape.
+pub fn entries(random: &mut Random, rows: usize, columns: usize) -> Vec<u8> {
     let near = random.below(rows + 3) as u32;
     let from = random.pick(&[1, 1, near, near, 0, rows as u32, rows as u32 + 1, u32::MAX]);
     let later = from.saturating_add(random.below(5) as u32);
-    let to = random.pick(&[0, 0, later, later, near, rows as u32, rows as u32 + 1, u32::MAX, from.wrapping_sub(1)]);
+    let beyond_room = from.saturating_add(rows_that_fit(columns));
+    let full = beyond_room - 1;
+    let below = from.wrapping_sub(1);
+    let to = random.pick(&[0, 0, later, later, full, beyond_room, near, rows as u32, rows as u32 + 1, u32::MAX, below]);
     let columns = match random.percent(85) {
         true => [0x12, 0x00, 0x01, 0x12, 0x00, 0x00],
         false => [0x12, 0x00, random.pick(&[0, 1, 2]), 0x12, random.pick(&[0, 1]), random.pick(&[0, 1])],
