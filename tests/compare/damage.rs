@@ -13,7 +13,7 @@ pub fn changed(random: &mut Random, bytes: &[u8]) -> Vec<u8> {
         2 if !bytes.is_empty() => bytes[place] = random.byte(),
         3 => bytes.truncate(place),
         4 if !bytes.is_empty() => drop(bytes.remove(place)),
-        _ => bytes.insert(place, random.byte()),
+        _ => bytes.insert(random.pick(&[place, bytes.len()]), random.byte()),
     }
     bytes
 }

@@ -8,7 +8,8 @@ pub fn value(random: &mut Random) -> Vec<u8> {
     match random.below(12) {
         0 => long(random),
         1 => chain(random),
-        2 => random.pick(&[vec![0x01, 0x00], vec![0x02, 0x00], vec![0x09, 0x00], vec![0x0F, 0x00], vec![0x00]]),
+        2 => foreign(random),
+        3 => random.pick(&[vec![0x01, 0x00], vec![0x02, 0x00], vec![0x09, 0x00], vec![0x0F, 0x00], vec![0x00]]),
         _ => tree(random, 4),
     }
 }
@@ -26,12 +27,19 @@ fn tree(random: &mut Random, levels: usize) -> Vec<u8> {
             let length = random.below(20);
             part(kind, &random.bytes(length))
         }
-        _ if random.percent(2) => vec![random.pick(&[0x04, 0x05, 0x10, 0x13, 0x14, 0x15, 0x17, 0x19, 0x80, 0xFF]), 0],
+        _ if random.percent(2) => foreign(random),
         0x00 => vec![kind],
         0x06 => [&[kind], &random.bytes(4)[..]].concat(),
         0x12 => [&[kind], &random.bytes(2)[..]].concat(),
         _ => vec![kind, random.byte()],
     }
+}
+
+/// A value of a kind outside the list, with as many bytes as that kind might have.
+fn foreign(random: &mut Random) -> Vec<u8> {
+    let kind = random.pick(&[0x04, 0x05, 0x0C, 0x0D, 0x10, 0x13, 0x14, 0x15, 0x17, 0x19, 0x1A, 0x1B, 0x80, 0xFF]);
+    let length = random.pick(&[0, 1, 1, 2, 4, 8, 12]);
+    [&[kind], &random.bytes(length)[..]].concat()
 }
 
 /// Strings and arrays whose lengths take two or three bytes, or would not have to.
