@@ -104,7 +104,10 @@ impl Bench {
             format!("state buffer before: {}", hex(image_before)),
             format!("reference: number {} ({}), {} bytes sent", outcome.number, outcome.event, outcome.reply.len()),
             format!("reference's reply: {}", hex(&outcome.reply)),
-            format!("library: number {}, {} bytes sent, guards stand: {}", answer.number, answer.sent, answer.guards_stand),
+            format!(
+                "library: number {}, {} bytes sent, guards stand: {}",
+                answer.number, answer.sent, answer.guards_stand
+            ),
             format!("library's reply room: {}", hex(room)),
             format!("library's state buffer after: {}", hex(&self.image)),
             format!("reference's state after: {:?}", self.state),

@@ -95,8 +95,9 @@ fn unguarded(call: &Call, state: &mut [u8], room: &mut [u8], sent: &mut usize) -
     // SAFETY: every pointer comes with the length of its own slice, is not null, and what is written overlaps nothing.
     unsafe {
         match call {
-            Call::New { device: d, title: t, v_title: v, h_title: h } => {
-                birlimock_new(at, len, d.as_ptr(), d.len(), t.as_ptr(), t.len(), v.as_ptr(), v.len(), h.as_ptr(), h.len())
+            Call::New { device, title, v_title, h_title } => {
+                let [d, t, v, h] = [device, title, v_title, h_title].map(|lent| (lent.as_ptr(), lent.len()));
+                birlimock_new(at, len, d.0, d.1, t.0, t.1, v.0, v.1, h.0, h.1)
             }
             Call::GiveRegisters(records) => birlimock_give_registers(at, len, records.as_ptr(), records.len()),
             Call::SetValue(name, value) => birlimock_set_value(at, len, name.as_ptr(), name.len(), *value),
@@ -105,21 +106,11 @@ fn unguarded(call: &Call, state: &mut [u8], room: &mut [u8], sent: &mut usize) -
             Call::Tick(clock) => birlimock_tick(at, len, clock.as_ptr(), clock.len()),
             Call::SetP5(held) => birlimock_set_p5(at, len, *held),
             Call::PowerUp => birlimock_power_up(at, len),
-            Call::Receive { frame: f, guk: g, authentication: a, challenge: c, .. } => birlimock_receive(
-                at,
-                len,
-                f.as_ptr(),
-                f.len(),
-                g.as_ptr(),
-                g.len(),
-                a.as_ptr(),
-                a.len(),
-                c.as_ptr(),
-                c.len(),
-                room.as_mut_ptr(),
-                room.len(),
-                sent,
-            ),
+            Call::Receive { frame, guk, authentication, challenge, .. } => {
+                let [f, g, a, c] = [frame, guk, authentication, challenge].map(|lent| (lent.as_ptr(), lent.len()));
+                let (reply, reply_len) = (room.as_mut_ptr(), room.len());
+                birlimock_receive(at, len, f.0, f.1, g.0, g.1, a.0, a.1, c.0, c.1, reply, reply_len, sent)
+            }
         }
     }
 }

@@ -121,7 +121,8 @@ impl Player<'_> {
     /// A tag, known or not, and any bytes.
     fn stray_apdu(&mut self) -> Vec<u8> {
         let any = self.random.byte();
-        let tag = self.random.pick(&[0x60, 0x62, 0xC0, 0xC1, 0xC3, 0xCB, 0xD0, 0xD1, 0xD3, 0xC8, 0x61, 0xD4, 0x00, any]);
+        let tag =
+            self.random.pick(&[0x60, 0x62, 0xC0, 0xC1, 0xC3, 0xCB, 0xD0, 0xD1, 0xD3, 0xC8, 0x61, 0xD4, 0x00, any]);
         let length = self.random.pick(&[0, 1, 5, 20, 100, 764]);
         let content = self.random.bytes(length);
         match self.random.percent(50) {
@@ -212,8 +213,12 @@ impl Player<'_> {
         match self.random.below(20) {
             0 => vec![any],
             1 if service == GET => [&[0x01, self.random.pick(&[1, 1, 0, 2, 255])], &value(self.random)[..]].concat(),
-            2 if service == GET => [&[0x01, self.random.pick(&[1, 2, 0])], &entries(self.random, rows, columns)[..]].concat(),
-            3..=10 if service == GET && name == PROFILE => [&[0x01, 0x01], &entries(self.random, rows, columns)[..]].concat(),
+            2 if service == GET => {
+                [&[0x01, self.random.pick(&[1, 2, 0])], &entries(self.random, rows, columns)[..]].concat()
+            }
+            3..=10 if service == GET && name == PROFILE => {
+                [&[0x01, 0x01], &entries(self.random, rows, columns)[..]].concat()
+            }
             1..=2 => [&[0x01], &value(self.random)[..]].concat(),
             3..=8 if service != GET => vec![0x01, 0x0F, any],
             _ => vec![0x00],

@@ -77,7 +77,8 @@ impl Run {
             let call = self.call(&mut scenario);
             let before = scenario.bench.state.clone();
             let compared = scenario.bench.call(&mut self.random, &call);
-            let agreement = compared.map_err(|told| format!("{told}\nnumber of the call: {}", self.statistics.calls + 1))?;
+            let agreement =
+                compared.map_err(|told| format!("{told}\nnumber of the call: {}", self.statistics.calls + 1))?;
             self.statistics.add(&call, &before, &agreement.outcome);
             if let Some(meter) = before.meter() {
                 self.samples.add(&call, meter, &agreement.outcome, &agreement.room);
@@ -135,7 +136,7 @@ fn room(random: &mut Random) -> usize {
     match random.below(100) {
         0 => random.below(LONGEST_FRAME),
         1 => random.pick(&[0, 1, LONGEST_FRAME - 2, LONGEST_FRAME - 1]),
-        2..=30 => random.pick(&[LONGEST_FRAME + 1, 1000, 900]),
+        2..=30 => random.between(LONGEST_FRAME + 1, 1000),
         _ => LONGEST_FRAME,
     }
 }

@@ -257,7 +257,9 @@ fn spoil_line(random: &mut Random, meter: &mut Meter, clause: Clause) {
             let services = random.pick(&[beyond, [0, 0, 0x15], [0, 0, 0x01]]);
             (v.linked, v.association) = (true, Plain::Associated(services));
         }
-        Clause::HanWithoutLink => (h.linked, h.association) = (false, Ciphered::Associated { agreed: [0, 0, 0x15], key }),
+        Clause::HanWithoutLink => {
+            (h.linked, h.association) = (false, Ciphered::Associated { agreed: [0, 0, 0x15], key })
+        }
         Clause::HanServices if random.percent(50) => {
             (h.linked, h.association) = (true, Ciphered::Associated { agreed: beyond, key })
         }

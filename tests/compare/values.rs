@@ -42,9 +42,10 @@ fn foreign(random: &mut Random) -> Vec<u8> {
     [&[kind], &random.bytes(length)[..]].concat()
 }
 
-/// Strings and arrays whose lengths take two or three bytes, or would not have to.
+/// Strings and arrays whose lengths take two or three bytes, or would not have to. With 726 and 727 the longest GET and
+/// ACTION of H are met, with 747 the longest GET of V.
 fn long(random: &mut Random) -> Vec<u8> {
-    let length = random.pick(&[0, 5, 127, 128, 129, 255, 256, 257, 600, 700]);
+    let length = random.pick(&[0, 5, 127, 128, 129, 255, 256, 257, 600, 725, 726, 727, 728, 746, 747, 748]);
     let (kind, content) = match random.percent(50) {
         true => (random.pick(&[0x09, 0x0A]), random.bytes(length)),
         false => (random.pick(&[0x01, 0x02]), vec![0x00; length]),

@@ -28,7 +28,7 @@ fn blocks(bytes: &[u8]) -> impl Iterator<Item = u128> + '_ {
 }
 
 fn ghash(subkey: u128, associated: &[u8], cipher_text: &[u8]) -> u128 {
-    let lengths = (associated.len() as u128 * 8) << 64 | cipher_text.len() as u128 * 8;
+    let lengths = ((associated.len() as u128 * 8) << 64) | (cipher_text.len() as u128 * 8);
     let all = blocks(associated).chain(blocks(cipher_text)).chain([lengths]);
     all.fold(0, |hash, block| field_product(hash ^ block, subkey))
 }

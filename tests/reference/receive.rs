@@ -92,7 +92,9 @@ impl Meter {
             Received::Unanswered(4) => Outcome::silent(4, "no frame"),
             Received::Unanswered(number) => Outcome::silent(number, "FRMR received"),
             Received::Rejected(head, 8, reason) => Outcome::new(8, frame::reject(head, reason), "frame over length"),
-            Received::Rejected(head, number, reason) => Outcome::new(number, frame::reject(head, reason), "frame rejected"),
+            Received::Rejected(head, number, reason) => {
+                Outcome::new(number, frame::reject(head, reason), "frame rejected")
+            }
             Received::Accepted(head, information) => self.by_control(head, information, &keys),
         }
     }
@@ -223,7 +225,14 @@ impl Meter {
         self.meter_as_sender(keys, key).close(tag, number, plain)
     }
 
-    fn sealed_answer(&mut self, tag: u8, keys: &Keys, key: Block, plain: Vec<u8>, verdict: (u8, &'static str)) -> Outcome {
+    fn sealed_answer(
+        &mut self,
+        tag: u8,
+        keys: &Keys,
+        key: Block,
+        plain: Vec<u8>,
+        verdict: (u8, &'static str),
+    ) -> Outcome {
         let reply = self.enclosed(tag, keys, key, &plain);
         Outcome { number: verdict.0, reply, event: verdict.1, sealed: Some(Sealed { key, plain }) }
     }

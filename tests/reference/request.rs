@@ -25,12 +25,7 @@ pub struct Action {
 
 fn target(reader: &mut Reader, service: u8) -> Option<Target> {
     reader.fixed(&[service, 0x01])?;
-    Some(Target {
-        invoke: reader.byte()?,
-        class: reader.number16()?,
-        name: reader.array()?,
-        number: reader.byte()?,
-    })
+    Some(Target { invoke: reader.byte()?, class: reader.number16()?, name: reader.array()?, number: reader.byte()? })
 }
 
 /// A GET, where these bytes are one.

@@ -70,7 +70,8 @@ fn envelopes_of_the_green_book() {
     assert_eq!(sender.close(0xC8, 0x01234567, &get), sealed);
     assert_eq!(sender.open(0xC8, &sealed), Some((0x01234567, get)));
     let initiate = hex("01011000112233445566778899AABBCCDDEEFF0000065F1F0400007E1F04B0");
-    let sealed = hex("21303001234567801302FF8A7874133D414CED25B42534D28DB0047720606B175BD52211BE6841DB204D39EE6FDB8E356855");
+    let sealed =
+        hex("21303001234567801302FF8A7874133D414CED25B42534D28DB0047720606B175BD52211BE6841DB204D39EE6FDB8E356855");
     assert_eq!(sender.close(0x21, 0x01234567, &initiate), sealed);
 }
 

@@ -74,7 +74,8 @@ fn window_of_180() {
 fn selected(from: u32, to: u32) -> Result<Vec<u16>, u8> {
     let mut meter = new_meter();
     meter.rows = (1..=15).map(|number| Row { number, clock: meter.clock, cells: vec![] }).collect();
-    let descriptor = [&hex("020406")[..], &from.to_be_bytes(), &[0x06], &to.to_be_bytes(), &hex("120001120000")].concat();
+    let descriptor =
+        [&hex("020406")[..], &from.to_be_bytes(), &[0x06], &to.to_be_bytes(), &hex("120001120000")].concat();
     let request = [&hex("C001C100070000150006FF020101")[..], &descriptor].concat();
     let get = reference::request::read_get(&request).unwrap();
     let Value::Array(rows) = reference::objects::ciphered_read(&meter, &get, true)? else { panic!("no array") };
