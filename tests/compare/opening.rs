@@ -20,7 +20,7 @@ pub fn plain(random: &mut Random, title: &[u8]) -> Vec<u8> {
 
 /// An AARQ of H, its envelope under the sender's key.
 pub fn ciphered(random: &mut Random, sender: &Sender) -> Vec<u8> {
-    let key = [&[0x01, 0x10], &random.bytes(16)[..]].concat();
+    let key = [&[0x01, 0x10], &random.field::<16>()[..]].concat();
     let initiate = initiate(random, &key);
     let counter = counter(random);
     let mut envelope = sender.close(0x21, counter, &initiate);
@@ -32,7 +32,7 @@ pub fn ciphered(random: &mut Random, sender: &Sender) -> Vec<u8> {
         part(0xA6, &part(0x04, &sender.title)),
         part(0x8A, &[0x07, 0x80]),
         part(0x8B, &[0x60, 0x85, 0x74, 0x05, 0x08, 0x02, 0x05]),
-        part(0xAC, &part(0x80, &random.bytes(8))),
+        part(0xAC, &part(0x80, &random.field::<8>())),
         part(0xBE, &part(0x04, &envelope)),
     ];
     assembled(random, fields)

@@ -48,6 +48,21 @@ impl Random {
         std::array::from_fn(|_| self.byte())
     }
 
+    /// Any bytes, as of a key or a title; seldom all of them are 00 or FF.
+    pub fn field<const N: usize>(&mut self) -> [u8; N] {
+        match self.below(16) {
+            0 => [0x00; N],
+            1 => [0xFF; N],
+            _ => self.array(),
+        }
+    }
+
+    /// A place in a list of so many items, often the first or the last.
+    pub fn place(&mut self, count: usize) -> usize {
+        let any = self.below(count);
+        self.pick(&[0, count - 1, any])
+    }
+
     pub fn pick<T: Clone>(&mut self, choices: &[T]) -> T {
         choices[self.below(choices.len())].clone()
     }

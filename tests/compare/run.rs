@@ -50,10 +50,10 @@ impl Run {
     fn scenario(&mut self) -> Scenario {
         let random = &mut self.random;
         let (image, steps) = match random.below(20) {
-            0 => (states::refused(random), 4),
+            0 => (states::refused(random), 6),
             1..=5 => {
                 let clause = random.pick(&CLAUSES);
-                (states::unsound(random, clause), 4)
+                (states::unsound(random, clause), 6)
             }
             6 => (random.bytes(SIZE), 120),
             7..=9 => {
@@ -62,10 +62,10 @@ impl Run {
             }
             _ => {
                 let meter = states::sound(random);
-                (states::image(random, &meter), random.pick(&[10, 30, 60]))
+                (states::image(random, &meter), random.pick(&[10, 10, 30, 30, 60, 60, 200]))
             }
         };
-        let (guk, authentication) = (random.array(), random.array());
+        let (guk, authentication) = (random.field(), random.field());
         Scenario { bench: Bench::new(image), guk, authentication, past: vec![], steps }
     }
 
@@ -118,7 +118,8 @@ impl Run {
         }
         scenario.past.push(frame.clone());
         let random = &mut self.random;
-        let (mut guk, mut authentication, mut challenge) = (guk.to_vec(), authentication.to_vec(), random.bytes(8));
+        let (mut guk, mut authentication, mut challenge) =
+            (guk.to_vec(), authentication.to_vec(), random.field::<8>().to_vec());
         match random.below(150) {
             0 => guk.resize(random.pick(&[0, 15, 17, 32]), 0),
             1 => authentication.resize(random.pick(&[0, 15, 17, 32]), 0),

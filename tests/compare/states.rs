@@ -124,11 +124,11 @@ pub fn sound(random: &mut Random) -> Meter {
     let rows = (0..row_count).map(|i| row(random, period, record_number.wrapping_sub(i as u16), columns.len()));
     let rows = rows.collect();
     Meter {
-        title: random.array(),
+        title: random.field(),
         verification: verification(random),
         han: han(random),
         p5: random.percent(20),
-        device: random.array(),
+        device: random.field(),
         clock: clock(random, period),
         period,
         record_number,
@@ -143,18 +143,18 @@ fn verification(random: &mut Random) -> Verification {
         0 => Plain::Associated(services(random, OFFERED_PLAIN)),
         _ => Plain::Absent,
     };
-    Verification { title: random.array(), linked: association != Plain::Absent || random.percent(40), association }
+    Verification { title: random.field(), linked: association != Plain::Absent || random.percent(40), association }
 }
 
 fn han(random: &mut Random) -> Han {
-    let (agreed, key) = (services(random, OFFERED_CIPHERED), random.array());
+    let (agreed, key) = (services(random, OFFERED_CIPHERED), random.field());
     let association = match random.below(8) {
         0..=3 => Ciphered::Associated { agreed, key },
-        4..=5 => Ciphered::Pending { agreed, key, client_challenge: random.array(), meter_challenge: random.array() },
+        4..=5 => Ciphered::Pending { agreed, key, client_challenge: random.field(), meter_challenge: random.field() },
         _ => Ciphered::Absent,
     };
     let linked = association != Ciphered::Absent || random.percent(70);
-    Han { title: random.array(), linked, association, accepted: counter(random), sent: counter(random) }
+    Han { title: random.field(), linked, association, accepted: counter(random), sent: counter(random) }
 }
 
 /// A sound meter with H associated for all services, any number of columns and any number of rows.
@@ -166,7 +166,7 @@ pub fn readable(random: &mut Random) -> Meter {
     let row_count = random.between(0, MOST_ROWS);
     meter.rows = (0..row_count).map(|i| row(random, meter.period, i as u16, column_count)).collect();
     meter.han.linked = true;
-    meter.han.association = Ciphered::Associated { agreed: OFFERED_CIPHERED, key: random.array() };
+    meter.han.association = Ciphered::Associated { agreed: OFFERED_CIPHERED, key: random.field() };
     meter
 }
 
@@ -218,9 +218,9 @@ fn count_above(random: &mut Random, capacity: usize) -> u64 {
 }
 
 fn spoil_lists(random: &mut Random, meter: &mut Meter, clause: Clause) {
-    let register = random.below(meter.registers.len());
-    let column = random.below(meter.columns.len());
-    let row = random.below(meter.rows.len());
+    let register = random.place(meter.registers.len());
+    let column = random.place(meter.columns.len());
+    let row = random.place(meter.rows.len());
     match clause {
         Clause::RegisterTwice => {
             let other = (register + random.between(1, meter.registers.len() - 1)) % meter.registers.len();
