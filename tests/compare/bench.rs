@@ -3,7 +3,7 @@
 use crate::hexadecimal::hex;
 use crate::library::{self, Answer};
 use crate::random::Random;
-use reference::image::{AGREED_IN, HAN_AT, SECRETS_AT, VERIFICATION_AT};
+use reference::image::{AGREED_IN, CHALLENGES_AT, HAN_AT, SECRETS_AT, VERIFICATION_AT};
 use reference::library::{Call, State};
 use reference::meter::{Ciphered, Plain};
 use reference::receive::Outcome;
@@ -58,7 +58,7 @@ impl Bench {
         (State::of(&self.image) != self.state).then_some("the states after the call differ")
     }
 
-    /// What a frame call that ended an association left of it.
+    /// What a frame call left of an association that it ended, or of challenges that were answered in it.
     fn traces(&self, call: &Call, before: &State) -> Option<&'static str> {
         let (Call::Receive { .. }, Some(before), Some(after)) = (call, before.meter(), self.state.meter()) else {
             return None;
@@ -74,6 +74,11 @@ impl Bench {
         }
         if h_ended && !(all_zero(agreed_of(HAN_AT)) && all_zero(SECRETS_AT)) {
             return Some("H's association ended and left services, key or challenges");
+        }
+        let answered = matches!(before.han.association, Ciphered::Pending { .. })
+            && matches!(after.han.association, Ciphered::Associated { .. });
+        if answered && !all_zero(CHALLENGES_AT) {
+            return Some("H's challenge was answered and left the challenges");
         }
         None
     }

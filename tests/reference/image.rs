@@ -24,8 +24,9 @@ pub const LINK_IN: usize = 8;
 pub const PHASE_IN: usize = 9;
 pub const AGREED_IN: std::ops::Range<usize> = 10..13;
 
-/// H's key and both challenges, and the counts.
+/// H's key and both challenges; the challenges alone; flags and lists.
 pub const SECRETS_AT: std::ops::Range<usize> = 35..67;
+pub const CHALLENGES_AT: std::ops::Range<usize> = 51..67;
 pub const P5_AT: usize = 75;
 pub const REGISTER_COUNT_AT: usize = 110;
 pub const REGISTERS_AT: usize = 118;
