@@ -2,7 +2,7 @@
 
 use crate::random::Random;
 use crate::states::{self, name, next_due, register, wrong_clock, wrong_period, PERIODS};
-use reference::image::{register_record, RIGHT_IN};
+use reference::image::{register_record, REGISTER_SIZE, RIGHT_IN};
 use reference::library::Call;
 use reference::meter::{Meter, Register, OWN_NAMES};
 
@@ -62,7 +62,9 @@ fn give_registers(random: &mut Random) -> Call {
     }
     let mut records: Vec<u8> = list.iter().flat_map(register_record).collect();
     match random.below(20) {
-        0 if !list.is_empty() => records[13 * random.below(list.len()) + RIGHT_IN] = random.pick(&[2, 0x80, 0xFF]),
+        0 if !list.is_empty() => {
+            records[REGISTER_SIZE * random.below(list.len()) + RIGHT_IN] = random.pick(&[2, 0x80, 0xFF])
+        }
         1 => records.extend(random.pick(&[vec![0], vec![1; 12]])),
         _ => {}
     }

@@ -87,24 +87,18 @@ impl Run {
         Ok(())
     }
 
+    /// The next call. A buffer that is no state gets calls as for some meter, and often a new one.
     fn call(&mut self, scenario: &mut Scenario) -> Call {
-        let random = &mut self.random;
-        match &scenario.bench.state {
-            State::Held(meter) if random.percent(99) => {
-                let meter = meter.clone();
-                match random.percent(20) {
-                    true => owner::call(random, &meter),
-                    false => self.receive(scenario, &meter),
-                }
-            }
-            State::Refused(_) if scenario.steps < 10 && random.percent(80) => {
-                let meter = states::sound(random);
-                match random.percent(50) {
-                    true => owner::call(random, &meter),
-                    false => self.receive(scenario, &meter),
-                }
-            }
-            _ => owner::new_meter(random),
+        let (meter, renewals) = match &scenario.bench.state {
+            State::Held(meter) => ((**meter).clone(), 1),
+            State::Refused(_) => (states::sound(&mut self.random), 40),
+        };
+        if self.random.percent(renewals) {
+            return owner::new_meter(&mut self.random);
+        }
+        match self.random.percent(20) {
+            true => owner::call(&mut self.random, &meter),
+            false => self.receive(scenario, &meter),
         }
     }
 

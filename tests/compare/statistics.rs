@@ -47,6 +47,9 @@ impl Statistics {
         for ((number, event), count) in &self.events {
             println!("{count:>9}  {number:>3}  {event}");
         }
+        for (number, count) in &self.numbers {
+            println!("{count:>9}  {number:>3}  in all");
+        }
         println!("{:>9}  frame calls while H was associated", self.frames_while_associated);
         println!("{:>9}  frame calls while H was pending", self.frames_while_pending);
         println!("{:>9}  frame calls with fifteen rows", self.frames_with_all_rows);

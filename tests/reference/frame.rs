@@ -12,14 +12,14 @@ pub const LINK_DOWN: u8 = 0x53;
 pub const DATA: u8 = 0x13;
 pub const ACKNOWLEDGE: u8 = 0x73;
 pub const DISCONNECTED: u8 = 0x1F;
-pub const REJECT: u8 = 0x97;
+const REJECT: u8 = 0x97;
 
 pub const REQUEST_LLC: [u8; 3] = [0xE6, 0xE6, 0x00];
-pub const REPLY_LLC: [u8; 3] = [0xE6, 0xE7, 0x00];
+const REPLY_LLC: [u8; 3] = [0xE6, 0xE7, 0x00];
 
 /// The longest information, the longest length field and the longest whole frame.
 pub const LONGEST_INFORMATION: usize = 768;
-pub const LONGEST_L: usize = LONGEST_INFORMATION + 9;
+const LONGEST_L: usize = LONGEST_INFORMATION + 9;
 pub const LONGEST_FRAME: usize = LONGEST_L + 2;
 
 const PRESENT_BIT: u8 = 0x10;

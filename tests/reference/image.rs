@@ -20,22 +20,22 @@ const CELLS: usize = 16;
 /// Where a client's record begins, and where its parts stand within it.
 pub const VERIFICATION_AT: usize = 9;
 pub const HAN_AT: usize = 22;
-pub const LINK_IN: usize = 8;
-pub const PHASE_IN: usize = 9;
+const LINK_IN: usize = 8;
+const PHASE_IN: usize = 9;
 pub const AGREED_IN: std::ops::Range<usize> = 10..13;
 
 /// H's key and both challenges; the challenges alone; flags and lists.
 pub const SECRETS_AT: std::ops::Range<usize> = 35..67;
 pub const CHALLENGES_AT: std::ops::Range<usize> = 51..67;
-pub const P5_AT: usize = 75;
+const P5_AT: usize = 75;
 pub const REGISTER_COUNT_AT: usize = 110;
-pub const REGISTERS_AT: usize = 118;
+const REGISTERS_AT: usize = 118;
 pub const REGISTER_SIZE: usize = 13;
 pub const RIGHT_IN: usize = 6;
 pub const COLUMN_COUNT_AT: usize = 326;
 pub const ROW_COUNT_AT: usize = 430;
 pub const ROWS_AT: usize = 438;
-pub const ROW_SIZE: usize = 86;
+const ROW_SIZE: usize = 86;
 pub const CELL_COUNT_IN: usize = 14;
 
 /// Every place of a flag.
