@@ -291,17 +291,26 @@ static __attribute__((noinline)) void run_tick(void)
     expect(birlimock_tick(state, sizeof state, clock, 12) == 0, "a tick with capture");
 }
 
-static __attribute__((noinline)) void run_verification(void)
+static Bytes exchange[5];
+
+static void ready_verification(void)
 {
     static const Bytes aarq = {"\x60\x32\xA1\x09\x06\x07\x60\x85\x74\x05\x08\x01\x01\xA6\x0A\x04\x08VER\0\0\0\0\0\x8B\x07\x60\x85\x74\x05\x08"
                                "\x02\x00\xBE\x10\x04\x0E\x01\x00\x00\x00\x06\x5F\x1F\x04\x00\x00\x00\x14\x03\x00", 52};
     static const Bytes get = {"\xC0\x01\xC1\x00\x01\x00\x00\x2A\x00\x00\xFF\x02\x00", 13};
     static const Bytes release = {"\x62\x03\x80\x01\x00", 5};
-    hears(0x21, 0x93, NULL, 0, "V's link up");
-    hears(0x21, 0x13, &aarq, 0, "V's AARQ");
-    hears(0x21, 0x13, &get, 0, "V's GET");
-    hears(0x21, 0x13, &release, 0, "V's release");
-    hears(0x21, 0x53, NULL, 0, "V's link down");
+    filled_meter();
+    exchange[0] = frame_of(0x21, 0x93, NULL);
+    exchange[1] = frame_of(0x21, 0x13, &aarq);
+    exchange[2] = frame_of(0x21, 0x13, &get);
+    exchange[3] = frame_of(0x21, 0x13, &release);
+    exchange[4] = frame_of(0x21, 0x53, NULL);
+}
+
+static __attribute__((noinline)) void run_verification(void)
+{
+    for (int i = 0; i < 5; i++)
+        expect(hear(&exchange[i]) == 0, "V's exchange");
 }
 
 static uint8_t text[LONGEST_TEXT], cipher[LONGEST_TEXT], opened[LONGEST_TEXT], mark[12], nonce_mark[12];
@@ -329,7 +338,7 @@ static const struct {
     void (*run)(void);
 } scenarios[] = {
     {"rows", ready_rows, run_rows},       {"longest", ready_long, run_long},           {"broken", ready_broken, run_broken},
-    {"refused", ready_short, run_short},  {"tick", filled_meter, run_tick},            {"verification", filled_meter, run_verification},
+    {"refused", ready_short, run_short},  {"tick", filled_meter, run_tick},            {"verification", ready_verification, run_verification},
     {"seal", ready_text, run_seal},       {"open", ready_text, run_open},
 };
 
