@@ -13,7 +13,7 @@ use Rattle.gf2.proofs.XorLaws.{xor-assoc}
 use Rattle.gf2.proofs.ShiftLaws.{steps-xor, steps-shifted, steps-split}
 use Rattle.gf2.proofs.TableLaws.{entry}
 use Rattle.ghash.specs.Product.{R, turns, product}
-use Rattle.ghash.specs.Nibble.{turnsFrom, blocksOf, nibblesFrom, Products, Feedback, Tables}
+use Rattle.ghash.specs.Nibble.{turnsFrom, blockAt, blocksOf, nibblesFrom, Products, Feedback, Tables}
 use Rattle.ghash.proofs.ProductLaws.{turns-step}
 
 steps-add : (m n v : ℕ) → steps R n (steps R m v) ≡ steps R (m + n) v
@@ -82,19 +82,20 @@ by-words x y v a b f ea eb =
     ∙ ap₂ (λ (t s : ℕ). bitXor (turns 64 t v) (steps R 64 s)) (sym (high x 64 f)) start
     ∙ sym (turns-split 64 64 n v)
 
--- a number of two words, shifted by four: the first word takes what the table has of the four bits that fall out
-pub by-feedback : (f : List ℕ) (b h l : ℕ) → Feedback f → h * 2 ^ 64 + l ≡ b / 16 → l < 2 ^ 64 → bitXor h (getD f (b % 16) 0) * 2 ^ 64 + l ≡ steps R 4 b
-by-feedback f b h l t e k =
+-- a number of two words, shifted by four: the first word takes what the table has of the bits k that fall out
+pub by-feedback : (f : List ℕ) (b k h l : ℕ) → Feedback f → b % 16 ≡ k → h * 2 ^ 64 + l ≡ b / 16 → l < 2 ^ 64
+    → bitXor h (getD f k 0) * 2 ^ 64 + l ≡ steps R 4 b
+by-feedback f b k h l t m e lt =
     let g : ℕ → ℕ = λ x. x * 2 ^ 64 in
     let n : length (map g f) ≡ 16 = length-map f g ∙ t .places in
-    let fed : getD f (b % 16) 0 * 2 ^ 64 ≡ steps R 4 (b % 16) =
-    sym (List·getD-map g f (b % 16) 0) ∙ entry (steps R 4) (map g f) (t .rule) (b % 16) (omega arith) in
-    ap (λ (x : ℕ). bitXor h (getD f (b % 16) 0) * 2 ^ 64 + x) (sym (xor-zero-r l))
-    ∙ sym (xor-block 64 h (getD f (b % 16) 0) l 0 k (omega arith))
-    ∙ ap₂ bitXor e (add-zero (getD f (b % 16) 0 * 2 ^ 64) ∙ fed)
+    let fed : getD f k 0 * 2 ^ 64 ≡ steps R 4 k =
+    sym (List·getD-map g f k 0) ∙ entry (steps R 4) (map g f) (t .rule) k (omega arith) in
+    ap (λ (x : ℕ). bitXor h (getD f k 0) * 2 ^ 64 + x) (sym (xor-zero-r l))
+    ∙ sym (xor-block 64 h (getD f k 0) l 0 lt (omega arith))
+    ∙ ap₂ bitXor e (add-zero (getD f k 0 * 2 ^ 64) ∙ fed ∙ ap (steps R 4) (sym m))
     ∙ sym (steps-split R 4 b)
 
-getD-blocks : (hs ls : List ℕ) (k : ℕ) → k < length (blocksOf hs ls) → getD (blocksOf hs ls) k 0 ≡ getD hs k 0 * 2 ^ 64 + getD ls k 0
+getD-blocks : (hs ls : List ℕ) (k : ℕ) → k < length (blocksOf hs ls) → getD (blocksOf hs ls) k 0 ≡ blockAt k hs ls
 unfolding blocksOf
 getD-blocks [] ls k l = absurd (not-suc-le-zero l)
 getD-blocks (h ∷ hs) [] k l = absurd (not-suc-le-zero l)
@@ -114,7 +115,7 @@ length-nibbles v i zero = refl
 length-nibbles v i (suc n) = ap suc (length-nibbles v (suc i) n)
 
 -- the table's block at a number of four bits
-pub product-at : (v : ℕ) (hs ls : List ℕ) (k : ℕ) → Products v hs ls → k < 16 → getD hs k 0 * 2 ^ 64 + getD ls k 0 ≡ turns 4 k v
+pub product-at : (v : ℕ) (hs ls : List ℕ) (k : ℕ) → Products v hs ls → k < 16 → blockAt k hs ls ≡ turns 4 k v
 product-at v hs ls k p l =
     let n : length (blocksOf hs ls) ≡ 16 = ap length (p .rule) ∙ length-nibbles v 0 16 in
     sym (getD-blocks hs ls k (omega arith))
@@ -123,7 +124,7 @@ product-at v hs ls k p l =
     ∙ ap (λ (t : ℕ). turns 4 t v) (zero-add k)
 
 -- place 8 has the block that the table was made of
-pub own : (v : ℕ) (hs ls : List ℕ) → Products v hs ls → getD hs 8 0 * 2 ^ 64 + getD ls 8 0 ≡ v
+pub own : (v : ℕ) (hs ls : List ℕ) → Products v hs ls → blockAt 8 hs ls ≡ v
 unfolding turns
 own v hs ls p = product-at v hs ls 8 p (omega arith) ∙ xor-zero-r v
 

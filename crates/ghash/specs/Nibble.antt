@@ -15,6 +15,10 @@ use Rattle.ghash.specs.Product.{R, turns}
 abbrev pub turnsFrom : ℕ → ℕ → ℕ → ℕ → ℕ
 turnsFrom z n x v = bitXor (turns n x v) (steps R n z)
 
+-- the block at place k of a table
+abbrev pub blockAt : ℕ → List ℕ → List ℕ → ℕ
+blockAt k hs ls = getD hs k 0 * 2 ^ 64 + getD ls k 0
+
 -- the blocks whose first words and last words stand in two lists
 unfoldable pub blocksOf : List ℕ → List ℕ → List ℕ
 blocksOf [] ls = []
@@ -37,5 +41,5 @@ pub record Feedback (f : List ℕ) : Type 0 where
 
 -- the tables of a product
 pub record Tables (hs ls f : List ℕ) : Type 0 where
-  pub products : Products (getD hs 8 0 * 2 ^ 64 + getD ls 8 0) hs ls
+  pub products : Products (blockAt 8 hs ls) hs ls
   pub feedback : Feedback f
