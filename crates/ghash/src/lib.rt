@@ -1,12 +1,12 @@
 // GHASH (SP 800-38D, 6.3 and 6.4). A block is two words by value. The product goes four bits at a time, by two tables: the
 // products of the hash subkey, made once for each call, and the feedback of four shifts.
 ghost use mathlib.Core.Path.{_≡_};
+ghost use Prim.Native.Nat.{_/_, _<_};
 ghost use lib.ListN.{getD};
-ghost use Prim.Native.Nat.{_<_, _+_, _*_, _/_, _^_};
 ghost use lib.Bits.{bitXor};
 ghost use Rattle.gf2.specs.Shift.{step, steps};
 ghost use Rattle.ghash.specs.Product.{R, product, num};
-ghost use Rattle.ghash.specs.Nibble.{Feedback, Tables, turnsFrom, blockAt, Products};
+ghost use Rattle.ghash.specs.Nibble.{turnsFrom, sumsOf, blockAt, Products, Feedback, Tables};
 ghost use Rattle.ghash.specs.Hash.{word64, block, blocks, ghashFrom, blockBytes};
 
 // A block: its first 64 bits, and its last.
@@ -97,62 +97,41 @@ fn nibble_turns(hi: &[u64; 16], lo: &[u64; 16], f: &[u64; 16], z: Block, n: u64)
     xor(p, times_x4(f, z))
 }
 
-// The sixteen products of h.
+// The sixteen products of h: sums of those by single bits.
 fn products(h: Block) -> ProductTable
     ensures { λ r. ⌜ Products (num h) (r .hi) (r .lo) ⌝ }
 {
-    let h4 = times_x(h);
-    let h2 = times_x(h4);
-    let h1 = times_x(h2);
-    let h3 = xor(h2, h1);
-    let h5 = xor(h4, h1);
-    let h6 = xor(h4, h2);
-    let h7 = xor(h4, h3);
-    let h9 = xor(h, h1);
-    let h10 = xor(h, h2);
-    let h11 = xor(h, h3);
-    let h12 = xor(h, h4);
-    let h13 = xor(h, h5);
-    let h14 = xor(h, h6);
-    let h15 = xor(h, h7);
+    let a = times_x(h);
+    let b = times_x(a);
+    let c = times_x(b);
     ProductTable {
-        hi: [
-            0,
-            h1.hi,
-            h2.hi,
-            h3.hi,
-            h4.hi,
-            h5.hi,
-            h6.hi,
-            h7.hi,
-            h.hi,
-            h9.hi,
-            h10.hi,
-            h11.hi,
-            h12.hi,
-            h13.hi,
-            h14.hi,
-            h15.hi,
-        ],
-        lo: [
-            0,
-            h1.lo,
-            h2.lo,
-            h3.lo,
-            h4.lo,
-            h5.lo,
-            h6.lo,
-            h7.lo,
-            h.lo,
-            h9.lo,
-            h10.lo,
-            h11.lo,
-            h12.lo,
-            h13.lo,
-            h14.lo,
-            h15.lo,
-        ],
+        hi: sums(h.hi, a.hi, b.hi, c.hi),
+        lo: sums(h.lo, a.lo, b.lo, c.lo),
     }
+}
+
+// The exclusive ors of four words, for each choice of them; the bits of a place say which, a's bit the highest.
+fn sums(a: u64, b: u64, c: u64, d: u64) -> [u64; 16]
+    ensures { λ r. ⌜ r ≡ sumsOf a b c d ⌝ }
+{
+    [
+        0,
+        d,
+        c,
+        c ^ d,
+        b,
+        b ^ d,
+        b ^ c,
+        b ^ (c ^ d),
+        a,
+        a ^ d,
+        a ^ c,
+        a ^ (c ^ d),
+        a ^ b,
+        a ^ (b ^ d),
+        a ^ (b ^ c),
+        a ^ (b ^ (c ^ d)),
+    ]
 }
 
 // The sum of two blocks.
