@@ -1,10 +1,12 @@
-// GHASH (SP 800-38D, 6.3 and 6.4). A block is two words by value. The product goes bit by bit.
+// GHASH (SP 800-38D, 6.3 and 6.4). A block is two words by value. The product goes four bits at a time, by two tables: the
+// products of the hash subkey, made once for each call, and the feedback of four shifts.
 ghost use mathlib.Core.Path.{_≡_};
-ghost use Prim.Native.Nat.{_/_};
+ghost use Prim.Native.Nat.{_/_, _<_};
 ghost use lib.ListN.{getD};
 ghost use lib.Bits.{bitXor};
-ghost use Rattle.gf2.specs.Shift.{ifBit, step};
+ghost use Rattle.gf2.specs.Shift.{step, steps};
 ghost use Rattle.ghash.specs.Product.{R, product, num};
+ghost use Rattle.ghash.specs.Nibble.{turnsFrom, sumsOf, blockAt, Products, Feedback, Tables};
 ghost use Rattle.ghash.specs.Hash.{word64, block, blocks, ghashFrom, blockBytes};
 
 // A block: its first 64 bits, and its last.
@@ -13,43 +15,123 @@ pub struct Block {
     pub lo: u64,
 }
 
+// The products of a block by each number of four bits: their first words, and their last.
+struct ProductTable {
+    hi: [u64; 16],
+    lo: [u64; 16],
+}
+
 // GHASH of the blocks of s, from the block y on, under the hash subkey h.
 pub fn hash_from(h: Block, y: Block, s: &[u8]) -> Block
     ensures { λ r. ⌜ num r ≡ ghashFrom (num h) (num y) (blocks (now (s .entry))) ⌝ }
 {
+    let t = products(h);
+    let hi = t.hi;
+    let lo = t.lo;
+    let f = FEEDBACK;
     let mut acc = y;
     let mut a: usize = 0;
     while a < s.len() {
-        let n = absorb(h, acc, &s[a..]);
+        let n = absorb(&hi, &lo, &f, acc, &s[a..]);
         acc = n;
         a = a + 16;
     }
     acc
 }
 
-// One turn of GHASH, with the first block of s.
-fn absorb(h: Block, y: Block, s: &[u8]) -> Block
-    ensures { λ r. ⌜ num r ≡ product (bitXor (num y) (block (now (s .entry)))) (num h) ⌝ }
-{
-    multiply(xor(y, load(s)), h)
-}
-
 // The product of two blocks.
 pub fn multiply(x: Block, h: Block) -> Block
     ensures { λ r. ⌜ num r ≡ product (num x) (num h) ⌝ }
 {
-    let mut z = Block { hi: 0, lo: 0 };
-    let mut y = x;
+    let t = products(h);
+    let hi = t.hi;
+    let lo = t.lo;
+    let f = FEEDBACK;
+    product_with(&hi, &lo, &f, x)
+}
+
+// One turn of GHASH, with the first block of s.
+fn absorb(hi: &[u64; 16], lo: &[u64; 16], f: &[u64; 16], y: Block, s: &[u8]) -> Block
+    requires { ⌜ Tables (now hi) (now lo) (now f) ⌝ }
+    ensures { λ r. ⌜ num r ≡ product (bitXor (num y) (block (now (s .entry)))) (blockAt 8 (now (hi .entry)) (now (lo .entry))) ⌝ }
+{
+    product_with(hi, lo, f, xor(y, load(s)))
+}
+
+// The product of x and the block that the tables are made of.
+fn product_with(hi: &[u64; 16], lo: &[u64; 16], f: &[u64; 16], x: Block) -> Block
+    requires { ⌜ Tables (now hi) (now lo) (now f) ⌝ }
+    ensures { λ r. ⌜ num r ≡ product (num x) (blockAt 8 (now (hi .entry)) (now (lo .entry))) ⌝ }
+{
+    let z = word_turns(hi, lo, f, Block { hi: 0, lo: 0 }, x.lo);
+    word_turns(hi, lo, f, z, x.hi)
+}
+
+// The turns over a word, its last bits first, from the block z on.
+fn word_turns(hi: &[u64; 16], lo: &[u64; 16], f: &[u64; 16], z: Block, w: u64) -> Block
+    requires { ⌜ Tables (now hi) (now lo) (now f) ⌝ }
+    ensures { λ r. ⌜ num r ≡ turnsFrom (num z) 64 w (blockAt 8 (now (hi .entry)) (now (lo .entry))) ⌝ }
+{
+    let mut r = z;
+    let mut y = w;
     let mut i: u64 = 0;
-    while i < 128 {
-        let t = times_x(z);
-        let n = xor_if(t, y.lo % 2, h);
-        z = n;
-        let y2 = half(y);
-        y = y2;
+    while i < 16 {
+        let n = nibble_turns(hi, lo, f, r, y % 16);
+        r = n;
+        y = y / 16;
         i = i + 1;
     }
-    z
+    r
+}
+
+// The turns over the four bits of n, from the block z on.
+fn nibble_turns(hi: &[u64; 16], lo: &[u64; 16], f: &[u64; 16], z: Block, n: u64) -> Block
+    requires { ⌜ Tables (now hi) (now lo) (now f) × (n < 16) ⌝ }
+    ensures { λ r. ⌜ num r ≡ turnsFrom (num z) 4 n (blockAt 8 (now (hi .entry)) (now (lo .entry))) ⌝ }
+{
+    let k = n as usize;
+    let p = Block {
+        hi: hi[k],
+        lo: lo[k],
+    };
+    xor(p, times_x4(f, z))
+}
+
+// The sixteen products of h: sums of those by single bits.
+fn products(h: Block) -> ProductTable
+    ensures { λ r. ⌜ Products (num h) (r .hi) (r .lo) ⌝ }
+{
+    let a = times_x(h);
+    let b = times_x(a);
+    let c = times_x(b);
+    ProductTable {
+        hi: sums(h.hi, a.hi, b.hi, c.hi),
+        lo: sums(h.lo, a.lo, b.lo, c.lo),
+    }
+}
+
+// The exclusive ors of four words, for each choice of them; the bits of a place say which, a's bit the highest.
+fn sums(a: u64, b: u64, c: u64, d: u64) -> [u64; 16]
+    ensures { λ r. ⌜ r ≡ sumsOf a b c d ⌝ }
+{
+    [
+        0,
+        d,
+        c,
+        c ^ d,
+        b,
+        b ^ d,
+        b ^ c,
+        b ^ (c ^ d),
+        a,
+        a ^ d,
+        a ^ c,
+        a ^ (c ^ d),
+        a ^ b,
+        a ^ (b ^ d),
+        a ^ (b ^ c),
+        a ^ (b ^ (c ^ d)),
+    ]
 }
 
 // The sum of two blocks.
@@ -129,10 +211,26 @@ fn times_x(b: Block) -> Block
     }
 }
 
-fn xor_if(a: Block, bit: u64, b: Block) -> Block
-    ensures { λ r. ⌜ num r ≡ bitXor (num a) (ifBit bit (num b)) ⌝ }
+// The product by x four times: a shift by four, and what the table has of the bits that fall out.
+fn times_x4(f: &[u64; 16], b: Block) -> Block
+    requires { ⌜ Feedback (now f) ⌝ }
+    ensures { λ r. ⌜ num r ≡ steps R 4 (num b) ⌝ }
 {
-    if bit == 0 { a } else { xor(a, b) }
+    let t = sixteenth(b);
+    let k = (b.lo % 16) as usize;
+    Block {
+        hi: t.hi ^ f[k],
+        lo: t.lo,
+    }
+}
+
+fn sixteenth(b: Block) -> Block
+    ensures { λ r. ⌜ num r ≡ num b / 16 ⌝ }
+{
+    Block {
+        hi: b.hi / 16,
+        lo: b.lo / 16 + b.hi % 16 * 0x1000_0000_0000_0000,
+    }
 }
 
 // The eight bytes from place a on as a number, the first the highest. A place is a byte, so that no sum of it can wrap.
@@ -149,3 +247,23 @@ fn load_word(s: &[u8], a: u8) -> u64
         + (byte_at(s, i + 6) as u64) * 0x100
         + (byte_at(s, i + 7) as u64)
 }
+
+// At each number of four bits, the first word of what four shifts with feedback make of it; the last word is 0.
+const FEEDBACK: [u64; 16] = [
+    0x0000_0000_0000_0000,
+    0x1c20_0000_0000_0000,
+    0x3840_0000_0000_0000,
+    0x2460_0000_0000_0000,
+    0x7080_0000_0000_0000,
+    0x6ca0_0000_0000_0000,
+    0x48c0_0000_0000_0000,
+    0x54e0_0000_0000_0000,
+    0xe100_0000_0000_0000,
+    0xfd20_0000_0000_0000,
+    0xd940_0000_0000_0000,
+    0xc560_0000_0000_0000,
+    0x9180_0000_0000_0000,
+    0x8da0_0000_0000_0000,
+    0xa9c0_0000_0000_0000,
+    0xb5e0_0000_0000_0000,
+];
