@@ -5,6 +5,7 @@ use crate::states::{self, name, next_due, register, wrong_clock, wrong_period, P
 use reference::image::{register_record, REGISTER_SIZE, RIGHT_IN};
 use reference::library::Call;
 use reference::meter::{Meter, Register, OWN_NAMES};
+use reference::soundness::MOST_REGISTERS;
 
 /// Any owner's call but a new meter. A meter without registers or columns often gets some, so that rows have cells.
 pub fn call(random: &mut Random, meter: &Meter) -> Call {
@@ -57,7 +58,7 @@ fn give_registers(random: &mut Random) -> Call {
             list.insert(place, register(random, own));
         }
         1 if count > 0 => list.push(list[place].clone()),
-        2 => list.extend(beyond(random)),
+        2 => list.extend(beyond(random, MOST_REGISTERS + 1 - count)),
         _ => {}
     }
     let mut records: Vec<u8> = list.iter().flat_map(register_record).collect();
@@ -71,9 +72,9 @@ fn give_registers(random: &mut Random) -> Call {
     Call::GiveRegisters(records)
 }
 
-/// Registers of which no list above has one, so that only their number can be wrong.
-fn beyond(random: &mut Random) -> Vec<Register> {
-    let count = random.pick(&[1, 9, 16, 17, 300]);
+/// Registers of which no list above has one, so that only their number can be wrong: about as many as are too many.
+fn beyond(random: &mut Random, least: usize) -> Vec<Register> {
+    let count = random.pick(&[least, least, least - 1, least + 1, 300]);
     (0..count).map(|i| register(random, [2, 0, 0, 0, (i >> 8) as u8, i as u8])).collect()
 }
 

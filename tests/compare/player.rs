@@ -203,24 +203,30 @@ impl Player<'_> {
         };
         let invoke = self.random.pick(&[0xC1, 0x81, 0x00, any]);
         let head = [&[service, 0x01, invoke], &u16::to_be_bytes(class)[..], &name, &[number]].concat();
-        [head, self.addition(service, name)].concat()
+        let addition = if service == GET { self.selector(name) } else { self.parameter() };
+        [head, addition].concat()
     }
 
-    /// What stands behind the target: nothing, a selector or a parameter.
-    fn addition(&mut self, service: u8, name: Name) -> Vec<u8> {
+    /// What stands behind the attribute of a GET: nothing, or a selector.
+    fn selector(&mut self, name: Name) -> Vec<u8> {
         let (rows, columns) = (self.meter.rows.len(), self.meter.columns.len());
+        let number = self.random.pick(&[1, 1, 2, 0]);
+        match self.random.below(20) {
+            0 => vec![self.random.byte()],
+            1..=2 => [&[0x01, number], &value(self.random)[..]].concat(),
+            3 => [&[0x01, number], &entries(self.random, rows, columns)[..]].concat(),
+            4..=11 if name == PROFILE => [&[0x01, 0x01], &entries(self.random, rows, columns)[..]].concat(),
+            _ => vec![0x00],
+        }
+    }
+
+    /// What stands behind the method of an ACTION: nothing, or a parameter.
+    fn parameter(&mut self) -> Vec<u8> {
         let any = self.random.byte();
         match self.random.below(20) {
             0 => vec![any],
-            1 if service == GET => [&[0x01, self.random.pick(&[1, 1, 0, 2, 255])], &value(self.random)[..]].concat(),
-            2 if service == GET => {
-                [&[0x01, self.random.pick(&[1, 2, 0])], &entries(self.random, rows, columns)[..]].concat()
-            }
-            3..=10 if service == GET && name == PROFILE => {
-                [&[0x01, 0x01], &entries(self.random, rows, columns)[..]].concat()
-            }
-            1..=2 => [&[0x01], &value(self.random)[..]].concat(),
-            3..=8 if service != GET => vec![0x01, 0x0F, any],
+            1..=4 => [&[0x01], &value(self.random)[..]].concat(),
+            5..=9 => vec![0x01, 0x0F, any],
             _ => vec![0x00],
         }
     }

@@ -50,13 +50,13 @@ impl Run {
     fn scenario(&mut self) -> Scenario {
         let random = &mut self.random;
         let (image, steps) = match random.below(20) {
-            0 => (states::refused(random), 6),
-            1..=5 => {
+            0..=1 => (states::refused(random), 5),
+            2..=6 => {
                 let clause = random.pick(&CLAUSES);
                 (states::unsound(random, clause), 6)
             }
-            6 => (random.bytes(SIZE), 120),
-            7..=9 => {
+            7 => (random.bytes(SIZE), 120),
+            8..=10 => {
                 let meter = states::readable(random);
                 (states::image(random, &meter), 20)
             }

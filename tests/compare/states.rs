@@ -196,7 +196,8 @@ pub fn unsound(random: &mut Random, clause: Clause) -> Vec<u8> {
         _ => None,
     };
     if let Some((place, capacity)) = counted {
-        image[place..place + 8].copy_from_slice(&count_above(random, capacity).to_be_bytes());
+        let right = image[place + 7];
+        image[place..place + 8].copy_from_slice(&count_above(random, capacity, right).to_be_bytes());
     }
     image
 }
@@ -211,10 +212,11 @@ fn rich(random: &mut Random) -> Meter {
     }
 }
 
-fn count_above(random: &mut Random, capacity: usize) -> u64 {
+/// A count that is too high; one that is cut to fewer bits may be the right one.
+fn count_above(random: &mut Random, capacity: usize, right: u8) -> u64 {
     let above = capacity as u64 + 1;
-    let any = random.number();
-    random.pick(&[above, above, above + 1, 255, 256, 1 << 32, 1 << 63, u64::MAX, any | 1 << 40])
+    let beyond = 1_u64 << random.pick(&[8, 16, 31, 32, 48, 63]);
+    random.pick(&[above, above, above + 1, 255, u64::MAX, beyond, beyond + u64::from(right)])
 }
 
 fn spoil_lists(random: &mut Random, meter: &mut Meter, clause: Clause) {
@@ -282,7 +284,7 @@ pub fn refused(random: &mut Random) -> Vec<u8> {
             image.resize(length, 0);
         }
         1 => image[0] = random.pick(&[0, 2, 0xFF, 0x81]),
-        2 => image[random.pick(&flags)] = random.pick(&[2, 3, 0x80, 0xFF]),
+        2 => image[flags[random.place(flags.len())]] = random.pick(&[2, 3, 0x80, 0xFF]),
         _ => image[random.pick(&image::PHASE_PLACES)] = random.pick(&[3, 4, 0x80, 0xFF]),
     }
     image

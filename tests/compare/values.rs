@@ -8,8 +8,9 @@ pub fn value(random: &mut Random) -> Vec<u8> {
     match random.below(12) {
         0 => long(random),
         1 => chain(random),
-        2 => foreign(random),
-        3 => random.pick(&[vec![0x01, 0x00], vec![0x02, 0x00], vec![0x09, 0x00], vec![0x0F, 0x00], vec![0x00]]),
+        2..=4 => foreign(random),
+        5..=6 => almost_integer(random),
+        7 => random.pick(&[vec![0x01, 0x00], vec![0x02, 0x00], vec![0x09, 0x00], vec![0x0A, 0x00]]),
         _ => tree(random, 4),
     }
 }
@@ -35,11 +36,49 @@ fn tree(random: &mut Random, levels: usize) -> Vec<u8> {
     }
 }
 
-/// A value of a kind outside the list, with as many bytes as that kind might have.
+/// Kinds outside the list, and how many bytes each has in the standard.
+const FOREIGN: [(u8, usize); 13] = [
+    (0x05, 4),
+    (0x07, 4),
+    (0x0D, 1),
+    (0x10, 2),
+    (0x13, 1),
+    (0x14, 8),
+    (0x15, 8),
+    (0x17, 4),
+    (0x18, 8),
+    (0x19, 12),
+    (0x1A, 5),
+    (0x1B, 4),
+    (0xFF, 0),
+];
+
+/// A value of a kind outside the list.
 fn foreign(random: &mut Random) -> Vec<u8> {
-    let kind = random.pick(&[0x04, 0x05, 0x0C, 0x0D, 0x10, 0x13, 0x14, 0x15, 0x17, 0x19, 0x1A, 0x1B, 0x80, 0xFF]);
-    let length = random.pick(&[0, 1, 1, 2, 4, 8, 12]);
-    [&[kind], &random.bytes(length)[..]].concat()
+    match random.below(8) {
+        0 => vec![0x04, 0x08, random.byte()],
+        1 => vec![0x0C, 0x01, random.byte()],
+        2 => vec![random.byte(), random.byte()],
+        _ => {
+            let (kind, length) = random.pick(&FOREIGN);
+            [&[kind], &random.bytes(length)[..]].concat()
+        }
+    }
+}
+
+/// A value that is one integer, or nearly so.
+fn almost_integer(random: &mut Random) -> Vec<u8> {
+    let byte = random.byte();
+    let kind = random.pick(&[0x0F, 0x11, 0x16, 0x03]);
+    random.pick(&[
+        vec![0x00],
+        vec![kind, byte],
+        vec![0x01, 0x01, 0x0F, byte],
+        vec![0x02, 0x01, 0x0F, byte],
+        vec![0x12, 0x00, byte],
+        vec![0x0F],
+        vec![0x0F, byte, 0x00],
+    ])
 }
 
 /// Strings and arrays whose lengths take two or three bytes, or would not have to. With 726 and 727 the longest GET and
