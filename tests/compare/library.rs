@@ -104,7 +104,7 @@ fn unguarded(call: &Call, state: &mut [u8], room: &mut [u8], sent: &mut usize) -
             Call::SetColumns(names) => birlimock_set_columns(at, len, names.as_ptr(), names.len()),
             Call::SetPeriod(period) => birlimock_set_period(at, len, *period),
             Call::Tick(clock) => birlimock_tick(at, len, clock.as_ptr(), clock.len()),
-            Call::SetP5(held) => birlimock_set_p5(at, len, u32::from(*held)),
+            Call::SetP5(held) => birlimock_set_p5(at, len, *held),
             Call::PowerUp => birlimock_power_up(at, len),
             Call::Receive { frame, guk, authentication, challenge, .. } => {
                 let [f, g, a, c] = [frame, guk, authentication, challenge].map(|lent| (lent.as_ptr(), lent.len()));

@@ -17,7 +17,7 @@ pub fn call(random: &mut Random, meter: &Meter) -> Call {
         2..=5 => set_value(random, meter),
         6 => Call::SetPeriod(if random.percent(60) { random.pick(&PERIODS) } else { wrong_period(random) }),
         7..=14 => Call::Tick(clock(random, meter)),
-        17 => Call::SetP5(random.pick(&[0, 0, 0, 1, 1, 2, 255])),
+        17 => Call::SetP5(random.pick(&[0, 0, 0, 0, 1, 1, 2, 255, 256, 257, 65537, u32::MAX])),
         15..=16 if meter.is_sound() => Call::Tick(next_due(meter).to_vec()),
         18 if random.percent(60) => set_value(random, meter),
         19 => Call::Tick(clock(random, meter)),

@@ -15,7 +15,7 @@ pub enum Call {
     SetColumns(Vec<u8>),
     SetPeriod(u32),
     Tick(Vec<u8>),
-    SetP5(u8),
+    SetP5(u32),
     PowerUp,
     Receive { frame: Vec<u8>, guk: Vec<u8>, authentication: Vec<u8>, challenge: Vec<u8>, room: usize },
 }
