@@ -18,7 +18,8 @@ int mbedtls_aesni_has_support(unsigned int what)
     return 0;
 }
 
-enum { ROWS = 15, COLUMNS = 6, LONGEST_TEXT = 744, LONGEST_FRAME = 779 };
+/* Fifteen rows of six columns are an answer of 741 bytes: 47 blocks of the cipher, as the longest text of 744 bytes has. */
+enum { ROWS = 15, COLUMNS = 6, ROWS_TEXT = 741, LONGEST_TEXT = 744, LONGEST_FRAME = 779 };
 
 static const uint8_t GUK[16] = {0, 1, 2, 3, 4, 5, 6, 7, 8, 9, 10, 11, 12, 13, 14, 15};
 static const uint8_t AK[16] = {0xD0, 0xD1, 0xD2, 0xD3, 0xD4, 0xD5, 0xD6, 0xD7, 0xD8, 0xD9, 0xDA, 0xDB, 0xDC, 0xDD, 0xDE, 0xDF};
@@ -290,17 +291,26 @@ static __attribute__((noinline)) void run_tick(void)
     expect(birlimock_tick(state, sizeof state, clock, 12) == 0, "a tick with capture");
 }
 
-static __attribute__((noinline)) void run_verification(void)
+static Bytes exchange[5];
+
+static void ready_verification(void)
 {
     static const Bytes aarq = {"\x60\x32\xA1\x09\x06\x07\x60\x85\x74\x05\x08\x01\x01\xA6\x0A\x04\x08VER\0\0\0\0\0\x8B\x07\x60\x85\x74\x05\x08"
                                "\x02\x00\xBE\x10\x04\x0E\x01\x00\x00\x00\x06\x5F\x1F\x04\x00\x00\x00\x14\x03\x00", 52};
     static const Bytes get = {"\xC0\x01\xC1\x00\x01\x00\x00\x2A\x00\x00\xFF\x02\x00", 13};
     static const Bytes release = {"\x62\x03\x80\x01\x00", 5};
-    hears(0x21, 0x93, NULL, 0, "V's link up");
-    hears(0x21, 0x13, &aarq, 0, "V's AARQ");
-    hears(0x21, 0x13, &get, 0, "V's GET");
-    hears(0x21, 0x13, &release, 0, "V's release");
-    hears(0x21, 0x53, NULL, 0, "V's link down");
+    filled_meter();
+    exchange[0] = frame_of(0x21, 0x93, NULL);
+    exchange[1] = frame_of(0x21, 0x13, &aarq);
+    exchange[2] = frame_of(0x21, 0x13, &get);
+    exchange[3] = frame_of(0x21, 0x13, &release);
+    exchange[4] = frame_of(0x21, 0x53, NULL);
+}
+
+static __attribute__((noinline)) void run_verification(void)
+{
+    for (int i = 0; i < 5; i++)
+        expect(hear(&exchange[i]) == 0, "V's exchange");
 }
 
 static uint8_t text[LONGEST_TEXT], cipher[LONGEST_TEXT], opened[LONGEST_TEXT], mark[12], nonce_mark[12];
@@ -314,7 +324,7 @@ static void ready_text(void)
 
 static __attribute__((noinline)) void run_seal(void)
 {
-    mbedtls_seal(DEDICATED, nonce_mark, text, sizeof text, opened, mark);
+    mbedtls_seal(DEDICATED, nonce_mark, text, ROWS_TEXT, opened, mark);
 }
 
 static __attribute__((noinline)) void run_open(void)
@@ -328,7 +338,7 @@ static const struct {
     void (*run)(void);
 } scenarios[] = {
     {"rows", ready_rows, run_rows},       {"longest", ready_long, run_long},           {"broken", ready_broken, run_broken},
-    {"refused", ready_short, run_short},  {"tick", filled_meter, run_tick},            {"verification", filled_meter, run_verification},
+    {"refused", ready_short, run_short},  {"tick", filled_meter, run_tick},            {"verification", ready_verification, run_verification},
     {"seal", ready_text, run_seal},       {"open", ready_text, run_open},
 };
 
@@ -339,7 +349,7 @@ static void see_rows(void)
     ready_rows();
     run_rows();
     nonce_of(METER_TITLE, 4, nonce);
-    expect(mbedtls_open(DEDICATED, nonce, reply + 11 + 9, 741, reply + 11 + 9 + 741, plain), "the sealed answer");
+    expect(mbedtls_open(DEDICATED, nonce, reply + 11 + 9, ROWS_TEXT, reply + 11 + 9 + ROWS_TEXT, plain), "the sealed answer");
     expect(plain[0] == 0xC4 && plain[4] == 0x01 && plain[5] == ROWS, "the rows in it");
 }
 

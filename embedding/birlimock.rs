@@ -2,7 +2,8 @@
 //! include/birlimock.h says; a refusal is the `Err` of its number.
 
 mod library {
-    extern "C" {
+    unsafe extern "C" {
+        pub fn birlimock_state_size() -> usize;
         pub fn birlimock_new(
             state: *mut u8, state_len: usize, device: *const u8, device_len: usize, title: *const u8, title_len: usize,
             v_title: *const u8, v_title_len: usize, h_title: *const u8, h_title_len: usize,
@@ -12,7 +13,7 @@ mod library {
         pub fn birlimock_set_columns(state: *mut u8, state_len: usize, names: *const u8, names_len: usize) -> u8;
         pub fn birlimock_set_period(state: *mut u8, state_len: usize, period: u32) -> u8;
         pub fn birlimock_tick(state: *mut u8, state_len: usize, clock: *const u8, clock_len: usize) -> u8;
-        pub fn birlimock_set_p5(state: *mut u8, state_len: usize, held: u8) -> u8;
+        pub fn birlimock_set_p5(state: *mut u8, state_len: usize, held: u32) -> u8;
         pub fn birlimock_power_up(state: *mut u8, state_len: usize) -> u8;
         pub fn birlimock_receive(
             state: *mut u8, state_len: usize, frame: *const u8, frame_len: usize, guk: *const u8, guk_len: usize,
@@ -24,6 +25,11 @@ mod library {
 
 pub const STATE_SIZE: usize = 1728;
 pub const REPLY_ROOM: usize = 779;
+
+/// How many bytes the linked library asks of a state buffer: `STATE_SIZE`, where it belongs to this file.
+pub fn state_size() -> usize {
+    unsafe { library::birlimock_state_size() }
+}
 
 /// A meter. Its state is plain bytes, to be kept and brought back as they are.
 pub struct Meter {
@@ -86,7 +92,7 @@ impl Meter {
 
     pub fn set_p5(&mut self, held: bool) -> Result<(), u8> {
         let s = &mut self.state;
-        told(unsafe { library::birlimock_set_p5(s.as_mut_ptr(), s.len(), held as u8) })
+        told(unsafe { library::birlimock_set_p5(s.as_mut_ptr(), s.len(), u32::from(held)) })
     }
 
     pub fn power_up(&mut self) -> Result<(), u8> {

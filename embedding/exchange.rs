@@ -1,14 +1,16 @@
 //! Runs an exchange from standard input over the static library, and compares: each line is 'name: frame > number reply', the
-//! frames in hex with spaces. Prints one line for each call; ends with 1 at a difference. Then a night's quarter hours by the
-//! owner's calls, to see each of them answer.
+//! frames in hex with spaces, the reply '-' where nothing goes out. Prints one line for each call; ends with 1 at a difference, at a
+//! line of another form, and where there is no line. Then a night's quarter hours by the owner's calls, to see each answer.
 
-#[allow(dead_code)]
 mod birlimock;
 
-use birlimock::{Lent, Meter, REPLY_ROOM};
+use birlimock::{Lent, Meter, REPLY_ROOM, STATE_SIZE};
 use std::io::BufRead;
 
 fn hex(text: &str) -> Option<Vec<u8>> {
+    if text == "-" {
+        return Some(Vec::new());
+    }
     text.split_whitespace().map(|pair| u8::from_str_radix(pair, 16).ok()).collect()
 }
 
@@ -54,13 +56,16 @@ fn owners_calls(meter: &mut Meter) -> Result<(), u8> {
 
 fn main() {
     let mut meter = Meter::new(b"TPC1070201000001", b"MMM\x00\x00\xBC\x61\x4E", b"VER\0\0\0\0\0", b"HAN\0\0\0\0\0").expect("a new meter");
-    let mut good = true;
+    let mut good = birlimock::state_size() == STATE_SIZE;
+    let mut lines = 0;
     for text in std::io::stdin().lock().lines() {
         match line_of(&text.expect("a line of text")) {
             Some(line) => good = run(&mut meter, &line) && good,
             None => good = false,
         }
+        lines += 1;
     }
+    good = good && lines > 0;
     match owners_calls(&mut meter) {
         Ok(()) => println!("owner's calls: all accepted"),
         Err(number) => {

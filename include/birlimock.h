@@ -2,25 +2,19 @@
  * Birlimock: the meter's side of a P2 plug, as a static library.
  *
  * A meter is a state buffer of BIRLIMOCK_STATE_SIZE bytes that the caller owns, keeps and lends to each call; its
- * layout is in docs/IMAGE.md. The library allocates nothing, keeps nothing between calls, calls nothing and prints
- * nothing. A buffer is a pointer and a length. Every length is answered, and a wrong one by a number: no call traps.
+ * layout is in docs/IMAGE.md. The library allocates nothing, keeps nothing between calls, prints nothing, and calls
+ * nothing but memcpy and memset. A buffer is a pointer and a length. Every length is answered, and a wrong one by a
+ * number: no call traps, given the stack that docs/SPEED.md names.
  *
  * What the caller owes, since nothing in C can test it: each pointer is not null, also where its length is 0, and
  * points to as many bytes as its length says (so does `sent`, to a size_t); what a call writes (state, reply, sent)
- * overlaps nothing else that it is lent, and no other thread touches what is lent until the call returns. A state
- * buffer needs no alignment.
+ * overlaps nothing else that it is lent, and no other thread touches what is lent until the call returns. No buffer
+ * needs an alignment.
  *
- * What a call answers: 0, or the number of a refusal. The first that applies, in the order 101 to 104, then 1 to 3, then
- * the call's own:
- *     1  reply room too short            7  counter outside its window     13  read or action denied
- *     2  a key or challenge too short    8  frame too long                 14  clock not valid
- *        or too long                     9  frame wrong in another way     15  period not permitted
- *     3  the state is unsound           10  link not possible, or down     16  register list not accepted
- *     4  not a frame                    11  association not accepted       17  no such register
- *     5  the other side rejects         12  request malformed, unknown     18  column list not accepted
- *     6  an envelope does not open          or out of turn                101 .. 104  the library's own, below
- * An owner's call that is refused leaves the state buffer as it was, byte for byte. So does a frame call, but for
- * refusals 7, 12 and 13, after which it holds what the protocol says of them (a counter, an association that ended).
+ * What a call answers: 0, or the number of a refusal: of the library's own first, 101 to 104, then of document 01's. An
+ * owner's call that is refused writes nothing. A frame call writes the whole state buffer, changed or not, where it answers 0,
+ * 7, 12 or 13, and else nothing of it. What a buffer holds that no meter has (registers, columns and rows above
+ * their counts, keys of associations that are over) is not promised, but for zeros where an association ends in a frame call.
  */
 #ifndef BIRLIMOCK_H
 #define BIRLIMOCK_H
@@ -38,24 +32,50 @@ extern "C" {
 /* The room for a reply that a frame call asks for: the longest frame. */
 #define BIRLIMOCK_REPLY_ROOM 779
 
+/* The lengths of what is lent. */
+#define BIRLIMOCK_DEVICE_SIZE 16
+#define BIRLIMOCK_TITLE_SIZE 8
+#define BIRLIMOCK_KEY_SIZE 16
+#define BIRLIMOCK_CHALLENGE_SIZE 8
+#define BIRLIMOCK_CLOCK_SIZE 12
+#define BIRLIMOCK_NAME_SIZE 6
+
 /* A list of registers is one record of this length after the other:
- *   name 6 bytes | right 1 byte, 1 where H may read it and else 0 | scaler 1 | unit 1 | value 4, high byte first
+ *   name 6 bytes | right 1 byte, 1 where H may read it and else 0 | scaler 1, signed: FF is -1 | unit 1 | value 4, high byte first
  * A list of columns is one name of 6 bytes after the other. */
 #define BIRLIMOCK_REGISTER_SIZE 13
-#define BIRLIMOCK_NAME_SIZE 6
-#define BIRLIMOCK_CLOCK_SIZE 12
 
-/* The library's own refusals. */
+/* Refusals of document 01. Frame calls answer 1 to 13 and test 1, 2, 3 before the frame; owner's calls test 3 before their own. */
+#define BIRLIMOCK_ROOM_TOO_SHORT 1      /* reply room below BIRLIMOCK_REPLY_ROOM */
+#define BIRLIMOCK_WRONG_SECRETS 2       /* GUK or AK not of 16 bytes, or the challenge not of 8 */
+#define BIRLIMOCK_UNSOUND_STATE 3       /* the state is one that these calls never leave: see below */
+#define BIRLIMOCK_NOT_A_FRAME 4         /* nothing goes out */
+#define BIRLIMOCK_FRMR_RECEIVED 5       /* the other side rejects a frame; nothing goes out */
+#define BIRLIMOCK_ENVELOPE_NOT_OPENED 6 /* nothing goes out */
+#define BIRLIMOCK_COUNTER_OUTSIDE 7     /* nothing goes out, and H's association ends */
+#define BIRLIMOCK_FRAME_TOO_LONG 8
+#define BIRLIMOCK_BAD_FRAME 9
+#define BIRLIMOCK_NO_LINK 10            /* a link is not possible, or down */
+#define BIRLIMOCK_AARQ_REJECTED 11
+#define BIRLIMOCK_BAD_APDU 12           /* malformed, unknown or out of turn */
+#define BIRLIMOCK_DENIED 13             /* a read or an action */
+#define BIRLIMOCK_BAD_CLOCK 14
+#define BIRLIMOCK_BAD_PERIOD 15
+#define BIRLIMOCK_BAD_REGISTERS 16
+#define BIRLIMOCK_NO_REGISTER 17
+#define BIRLIMOCK_BAD_COLUMNS 18
+
+/* The library's own refusals: the first that applies, before those above. */
 #define BIRLIMOCK_WRONG_STATE_SIZE 101  /* the state buffer has another length than BIRLIMOCK_STATE_SIZE */
 #define BIRLIMOCK_WRONG_VERSION 102     /* its first byte is not the version of this layout */
 #define BIRLIMOCK_NO_STATE 103          /* a flag in it is neither 0 nor 1, or a phase is above 2 */
-#define BIRLIMOCK_WRONG_ARGUMENT 104    /* an argument has a wrong length, or a flag in it is neither 0 nor 1 */
+#define BIRLIMOCK_WRONG_ARGUMENT 104    /* an owner's argument has a wrong length, or a flag in it is neither 0 nor 1 */
 
 /* How many bytes a state buffer has: compare it with BIRLIMOCK_STATE_SIZE once, to see that header and library fit. */
 size_t birlimock_state_size(void);
 
 /* A new meter: its device name (16 bytes), its own title and the titles held for V and H (8 bytes each); no registers, no
- * columns, no rows, links down. What the state buffer held before does not matter.
+ * columns, no rows, links down, period 60 s, clock 2017-01-01 00:00:00. What the state buffer held before does not matter.
  * Refusals: 101, 104. Writes: the whole state buffer where it answers 0, else nothing. */
 uint8_t birlimock_new(uint8_t *state, size_t state_len,
                       const uint8_t *device, size_t device_len,
@@ -64,10 +84,13 @@ uint8_t birlimock_new(uint8_t *state, size_t state_len,
                       const uint8_t *h_title, size_t h_title_len);
 
 /* The owner's calls. Refusals of each: 101, 102, 103; then 104 where it is lent bytes or a flag; then 3, the state is
- * unsound; then its own. Each writes the state buffer where it answers 0, and else nothing. */
+ * unsound (lists, period or clocks that the calls below would refuse, more than 15 rows, cells that are not one for each column,
+ * an association on a link that is down or with services that were not offered); then its own. Each writes the whole state
+ * buffer where it answers 0, and else nothing. */
 
-/* Registers are given anew, from whole records; columns and rows are emptied. Own refusal: 16, the list is not accepted
- * (above 16, a name twice, a name of the meter's own objects). */
+/* Registers are given anew, from whole records; columns and rows are emptied. Own refusal: 16, more than 16, a name twice, or a
+ * name of the meter's own objects (0.0.1.0.0.255, 1.0.0.9.1.255, 1.0.0.9.2.255, 0.0.42.0.0.255, 0.0.21.0.6.255,
+ * 0.0.96.15.3.255, 0.0.40.0.4.255). */
 uint8_t birlimock_give_registers(uint8_t *state, size_t state_len,
                                  const uint8_t *registers, size_t registers_len);
 
@@ -75,30 +98,31 @@ uint8_t birlimock_give_registers(uint8_t *state, size_t state_len,
 uint8_t birlimock_set_value(uint8_t *state, size_t state_len,
                             const uint8_t *name, size_t name_len, uint32_t value);
 
-/* The columns of the profile are set, from whole names; rows are emptied. Own refusal: 18, the list is not accepted (a
- * name that no register bears, a name twice, above 16). */
+/* The columns of the profile are set, from whole names; rows are emptied. Own refusal: 18, a name that no register bears, a
+ * name twice, or more than 16. */
 uint8_t birlimock_set_columns(uint8_t *state, size_t state_len,
                               const uint8_t *names, size_t names_len);
 
-/* The capture period is set, in seconds. Own refusal: 15, not one of the sixteen permitted ones. */
+/* The capture period is set, in seconds. Own refusal: 15, not a multiple of 30 that divides 3600. */
 uint8_t birlimock_set_period(uint8_t *state, size_t state_len, uint32_t period);
 
-/* The clock (12 bytes, a COSEM date-time) moves on, and a row is taken where a capture is due. Own refusal: 14, not a
- * valid clock. */
+/* The clock moves on, and a row is taken where minutes times 60 plus seconds divide by the period. Its 12 bytes: year (2,
+ * high byte first, 2000 to 2099), month, day, FF, hour, minute, second, FF, 80 00 00. Own refusal: 14, other bytes, or no real
+ * date and time. */
 uint8_t birlimock_tick(uint8_t *state, size_t state_len,
                        const uint8_t *clock, size_t clock_len);
 
 /* The P5 flag, which keeps V from linking: 1 sets it, 0 clears it, any other number is refused by 104. */
-uint8_t birlimock_set_p5(uint8_t *state, size_t state_len, uint8_t held);
+uint8_t birlimock_set_p5(uint8_t *state, size_t state_len, uint32_t held);
 
-/* Power-up: links and associations end; counters, rows and record number are cleared. */
+/* Power-up: links and associations end; counters, rows and record number are cleared. To be called after every start. */
 uint8_t birlimock_power_up(uint8_t *state, size_t state_len);
 
 /* The frame call: a frame was received. Lent are GUK and AK (16 bytes each), a challenge of 8 bytes that the caller draws
  * anew for each call, and room for the reply, BIRLIMOCK_REPLY_ROOM bytes or more.
- * Refusals: 101, 102, 103, then 1 to 13. Writes: *sent, how many bytes of the reply room go out, 0 where nothing goes
- * out; these bytes of the reply room and no others; the state buffer where the call changes the meter. A refusal may have
- * a reply, too: send what *sent counts, whatever the number is. */
+ * Refusals: 101, 102, 103; then 1, 2, 3; then one of 4 to 13. Writes: *sent, how many bytes of the reply room go out, 0 where
+ * nothing goes out; these bytes of the reply room and no others; the state buffer as said above. A refusal may have a reply,
+ * too: send what *sent counts, whatever the number is. */
 uint8_t birlimock_receive(uint8_t *state, size_t state_len,
                           const uint8_t *frame, size_t frame_len,
                           const uint8_t *guk, size_t guk_len,

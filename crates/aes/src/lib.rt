@@ -1,9 +1,10 @@
 // AES-128 (FIPS 197): the key schedule and the cipher of one block. The state and the eleven round keys are arrays of
-// arrays by value. The substitution table is copied once a block and once a key, and lent to the functions below.
+// arrays by value. The substitution table, and that of its
+// entries doubled, are copied once a block (the first once a key, too) and lent to the functions below.
 ghost use mathlib.Core.Path.{_≡_};
 ghost use Rattle.aes.specs.State.{stateOf, bytesOf};
 ghost use Rattle.aes.specs.Field.{xtime, xorWord};
-ghost use Rattle.aes.specs.Sbox.{sbox, sboxTable};
+ghost use Rattle.aes.specs.Sbox.{sbox, sboxTable, doubledTable};
 ghost use Rattle.aes.specs.Cipher.{subWord, subBytes, shiftRows, mixColumn, mixColumns, addRoundKey, roundOf, finalRound, cipher};
 ghost use Rattle.aes.specs.KeyExpansion.{nextKey, keyExpansion};
 
@@ -32,7 +33,8 @@ pub fn encrypt_block(w: [[[u8; 4]; 4]; 11], block: [[u8; 4]; 4]) -> [[u8; 4]; 4]
     ensures { λ r. ⌜ r ≡ cipher w block ⌝ }
 {
     let t = SBOX;
-    run_rounds(&t, w, block)
+    let d = DOUBLED;
+    run_rounds(&t, &d, w, block)
 }
 
 // Sixteen bytes as a state.
@@ -71,25 +73,31 @@ pub fn bytes_of(s: [[u8; 4]; 4]) -> [u8; 16]
     ]
 }
 
-fn run_rounds(t: &[u8; 256], w: [[[u8; 4]; 4]; 11], block: [[u8; 4]; 4]) -> [[u8; 4]; 4]
-    requires { ⌜ now t ≡ sboxTable ⌝ }
+fn run_rounds(
+    t: &[u8; 256],
+    d: &[u8; 256],
+    w: [[[u8; 4]; 4]; 11],
+    block: [[u8; 4]; 4],
+) -> [[u8; 4]; 4]
+    requires { ⌜ (now t ≡ sboxTable) × (now d ≡ doubledTable) ⌝ }
     ensures { λ r. ⌜ r ≡ cipher w block ⌝ }
 {
     let mut s = add_round_key(block, w[0]);
     let mut i: usize = 0;
     while i < 9 {
-        let n = round(t, s, w[i + 1]);
+        let n = round(t, d, s, w[i + 1]);
         s = n;
         i = i + 1;
     }
     final_round(t, s, w[10])
 }
 
-fn round(t: &[u8; 256], s: [[u8; 4]; 4], k: [[u8; 4]; 4]) -> [[u8; 4]; 4]
-    requires { ⌜ now t ≡ sboxTable ⌝ }
+// Substitution byte by byte and the moving of bytes may change places, so each column is substituted where it is mixed.
+fn round(t: &[u8; 256], d: &[u8; 256], s: [[u8; 4]; 4], k: [[u8; 4]; 4]) -> [[u8; 4]; 4]
+    requires { ⌜ (now t ≡ sboxTable) × (now d ≡ doubledTable) ⌝ }
     ensures { λ r. ⌜ r ≡ roundOf s k ⌝ }
 {
-    add_round_key(mix_columns(shift_rows(sub_bytes(t, s))), k)
+    add_round_key(mix_substitutes(t, d, shift_rows(s)), k)
 }
 
 fn final_round(t: &[u8; 256], s: [[u8; 4]; 4], k: [[u8; 4]; 4]) -> [[u8; 4]; 4]
@@ -141,34 +149,45 @@ fn shift_rows(s: [[u8; 4]; 4]) -> [[u8; 4]; 4]
     ]
 }
 
-fn mix_columns(s: [[u8; 4]; 4]) -> [[u8; 4]; 4]
-    ensures { λ r. ⌜ r ≡ mixColumns s ⌝ }
+fn mix_substitutes(t: &[u8; 256], d: &[u8; 256], s: [[u8; 4]; 4]) -> [[u8; 4]; 4]
+    requires { ⌜ (now t ≡ sboxTable) × (now d ≡ doubledTable) ⌝ }
+    ensures { λ r. ⌜ r ≡ mixColumns (subBytes s) ⌝ }
 {
     [
-        mix_column(s[0]),
-        mix_column(s[1]),
-        mix_column(s[2]),
-        mix_column(s[3]),
+        mix_column(t, d, s[0]),
+        mix_column(t, d, s[1]),
+        mix_column(t, d, s[2]),
+        mix_column(t, d, s[3]),
     ]
 }
 
-fn mix_column(a: [u8; 4]) -> [u8; 4]
-    ensures { λ r. ⌜ r ≡ mixColumn a ⌝ }
+// A column, substituted and mixed.
+fn mix_column(t: &[u8; 256], d: &[u8; 256], a: [u8; 4]) -> [u8; 4]
+    requires { ⌜ (now t ≡ sboxTable) × (now d ≡ doubledTable) ⌝ }
+    ensures { λ r. ⌜ r ≡ mixColumn (subWord a) ⌝ }
 {
-    let a0 = a[0];
-    let a1 = a[1];
-    let a2 = a[2];
-    let a3 = a[3];
-    let b0 = times_x(a0);
-    let b1 = times_x(a1);
-    let b2 = times_x(a2);
-    let b3 = times_x(a3);
+    let a0 = sub_byte(t, a[0]);
+    let a1 = sub_byte(t, a[1]);
+    let a2 = sub_byte(t, a[2]);
+    let a3 = sub_byte(t, a[3]);
+    let b0 = double(d, a[0]);
+    let b1 = double(d, a[1]);
+    let b2 = double(d, a[2]);
+    let b3 = double(d, a[3]);
     [
         b0 ^ (b1 ^ a1) ^ a2 ^ a3,
         a0 ^ b1 ^ (b2 ^ a2) ^ a3,
         a0 ^ a1 ^ b2 ^ (b3 ^ a3),
         (b0 ^ a0) ^ a1 ^ a2 ^ b3,
     ]
+}
+
+// The product by x of a byte's substitute.
+fn double(d: &[u8; 256], b: u8) -> u8
+    requires { ⌜ now d ≡ doubledTable ⌝ }
+    ensures { λ r. ⌜ r ≡ xtime (sbox b) ⌝ }
+{
+    d[b as usize]
 }
 
 fn times_x(a: u8) -> u8
@@ -225,3 +244,21 @@ const SBOX: [u8; 256] = *b"\x63\x7c\x77\x7b\xf2\x6b\x6f\xc5\x30\x01\x67\x2b\xfe\
     \x70\x3e\xb5\x66\x48\x03\xf6\x0e\x61\x35\x57\xb9\x86\xc1\x1d\x9e\
     \xe1\xf8\x98\x11\x69\xd9\x8e\x94\x9b\x1e\x87\xe9\xce\x55\x28\xdf\
     \x8c\xa1\x89\x0d\xbf\xe6\x42\x68\x41\x99\x2d\x0f\xb0\x54\xbb\x16";
+
+// The product by x of each substitute, in the same rows.
+const DOUBLED: [u8; 256] = *b"\xc6\xf8\xee\xf6\xff\xd6\xde\x91\x60\x02\xce\x56\xe7\xb5\x4d\xec\
+    \x8f\x1f\x89\xfa\xef\xb2\x8e\xfb\x41\xb3\x5f\x45\x23\x53\xe4\x9b\
+    \x75\xe1\x3d\x4c\x6c\x7e\xf5\x83\x68\x51\xd1\xf9\xe2\xab\x62\x2a\
+    \x08\x95\x46\x9d\x30\x37\x0a\x2f\x0e\x24\x1b\xdf\xcd\x4e\x7f\xea\
+    \x12\x1d\x58\x34\x36\xdc\xb4\x5b\xa4\x76\xb7\x7d\x52\xdd\x5e\x13\
+    \xa6\xb9\x00\xc1\x40\xe3\x79\xb6\xd4\x8d\x67\x72\x94\x98\xb0\x85\
+    \xbb\xc5\x4f\xed\x86\x9a\x66\x11\x8a\xe9\x04\xfe\xa0\x78\x25\x4b\
+    \xa2\x5d\x80\x05\x3f\x21\x70\xf1\x63\x77\xaf\x42\x20\xe5\xfd\xbf\
+    \x81\x18\x26\xc3\xbe\x35\x88\x2e\x93\x55\xfc\x7a\xc8\xba\x32\xe6\
+    \xc0\x19\x9e\xa3\x44\x54\x3b\x0b\x8c\xc7\x6b\x28\xa7\xbc\x16\xad\
+    \xdb\x64\x74\x14\x92\x0c\x48\xb8\x9f\xbd\x43\xc4\x39\x31\xd3\xf2\
+    \xd5\x8b\x6e\xda\x01\xb1\x9c\x49\xd8\xac\xf3\xcf\xca\xf4\x47\x10\
+    \x6f\xf0\x4a\x5c\x38\x57\x73\x97\xcb\xa1\xe8\x3e\x96\x61\x0d\x0f\
+    \xe0\x7c\x71\xcc\x90\x06\xf7\x1c\xc2\x6a\xae\x69\x17\x99\x3a\x27\
+    \xd9\xeb\x2b\x22\xd2\xa9\x07\x33\x2d\x3c\x15\xc9\x87\xaa\x50\xa5\
+    \x03\x59\x09\x1a\x65\xd7\x84\xd0\x82\x29\x5a\x1e\x7b\xa8\x6d\x2c";

@@ -1,8 +1,9 @@
 -- Demand 3 of the static library: a run of its calls is a run of the functions behind them, on the meters in the buffer.
 use mathlib.Core.Path.{_≡_, refl, sym, subst, ap, ap₂, _∙_}
-use mathlib.Core.Bool.{true}
+use mathlib.Core.Bool.{true, false}
 use mathlib.Core.List.{List, [], _∷_}
 use Prim.Native.Nat.{ℕ}
+use native.Mathlib.Omega.{arith}
 use Rattle.model.specs.Calls.{Lent, Call, frame}
 use Rattle.model.specs.Demand3.{Handed}
 use Rattle.meter.specs.declared.Meter.{Meter}
@@ -15,7 +16,7 @@ use Rattle.p2.specs.Runs.{Ensured, Runs}
 use Rattle.p2.proofs.Runs.{runs-demand3}
 use Rattle.capi.specs.Refusals.{ownRefusal}
 use Rattle.capi.specs.Promises.{whole, OwnerCalled, FrameCalled}
-use Rattle.capi.specs.Runs.{handedBack, Library, receives, owns, LibraryRuns, none, more, LibraryDemand3}
+use Rattle.capi.specs.Runs.{handedBack, Library, receives, owns, LibraryRuns, none, more, refused, RefusedByArguments, LibraryDemand3}
 
 -- what is read of a buffer: its status, and the meter in it
 module _ (e : List ℕ) {m : Meter} (r : readImage e ≡ whole m) where
@@ -49,8 +50,18 @@ call-made s e w (owns c n f) =
       next = refl;
     }
 
+-- a call that the library refuses for its arguments
+pub refused-by-arguments : RefusedByArguments
+refused-by-arguments good c s e n w g f =
+    let own : ownRefusal (statusOf s) good ≡ 104 = ap₂ ownRefusal w g in
+    let q : n ≡ 104 = f .refused (λ z. omega (arith, own)) ∙ own in
+    (q, f .kept (λ z. omega arith))
+
 library-runs : (s : List ℕ) {cs : List Call} {hs : List (Handed Meter view)} → statusOf s ≡ Whole → LibraryRuns s cs hs → Runs (meterOf s) cs hs
 library-runs s w none = tt
+library-runs s w (refused {cs = cs} {hs = hs} c e n f r) =
+    let k : e ≡ s = refused-by-arguments false c s e n w refl f .1 in
+    subst (λ (x : List ℕ). Runs (meterOf x) cs hs) k (library-runs e (ap statusOf k ∙ w) r)
 library-runs s w (more {h = h} {cs = cs} {hs = hs} e l r) =
     let m = call-made s e w l in
     (m .ensured, subst (λ (x : Meter). Runs x cs hs) (sym (m .next)) (library-runs e (m .again) r))

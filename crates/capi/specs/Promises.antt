@@ -1,7 +1,7 @@
 -- What the calls of the static library promise, for every state buffer and whatever is lent. s is what the state buffer held, e
 -- what it holds afterwards, n the number answered. Three sentences each: the library's own refusal is answered where there is
--- one; else the call of that name is made on the meter in the buffer, and keeps its own promise; and a call that is refused
--- leaves the buffer as it was.
+-- one; else the call of that name is made on the meter in the buffer, and keeps its own promise; and a refused call
+-- leaves the buffer as it was, a frame call that is refused by one of `keeping` (its other refusals change the meter).
 use mathlib.Core.Path.{_≡_}
 use mathlib.Core.Bool.{Bool, true, false}
 use mathlib.Core.List.{List}
@@ -84,7 +84,7 @@ pub record FrameEnds (r : Received) (s e : List ℕ) (n : ℕ) : Type 0 where
       length s ≡ imageSize → listed n keeping ≡ false → (e ≡ imageOf (r .meter)) × (readImage e ≡ whole (r .meter))
   pub kept : listed n keeping ≡ true → e ≡ s
 
--- the library refuses by number n: nothing goes out, nothing changes
+-- the library itself refuses: nothing goes out, nothing changes
 pub record Silent (s e l o : List ℕ) (k : ℕ) : Type 0 where
   pub state : e ≡ s
   pub count : k ≡ 0

@@ -1,8 +1,9 @@
 -- Demand 3 of the static library as it runs: the frame call and all owner's calls, each by its own `ensures`, in any list of calls on
--- a state buffer in which each finds the buffer as the last one left it. A call that the library itself refuses is no call on the
--- meter: it changes nothing, and its number tells lengths, the version and flags alone.
+-- a state buffer that holds a whole image at first, in which each finds the buffer as the last one left it. Owner's calls that the
+-- library itself refuses may stand anywhere between them: each leaves the buffer, and its number is that of its arguments
+-- (`RefusedByArguments`).
 use mathlib.Core.Path.{_≡_}
-use mathlib.Core.Bool.{true}
+use mathlib.Core.Bool.{Bool, true, false}
 use mathlib.Core.List.{List, [], _∷_, map}
 use Prim.Native.Nat.{ℕ}
 use Rattle.model.specs.Calls.{Lent, Call, frame}
@@ -12,6 +13,7 @@ use Rattle.meter.specs.View.{view}
 use Rattle.protocol.specs.Decide.{p2}
 use Rattle.image.specs.declared.Status.the-variants.{Whole}
 use Rattle.image.specs.Image.{meterOf, statusOf}
+use Rattle.capi.specs.Refusals.{wrongArgument}
 use Rattle.capi.specs.Promises.{OwnerCalled, FrameCalled}
 
 -- what a call hands back: its number, how many bytes go out, the meter in the buffer, and the reply room before and after
@@ -31,6 +33,20 @@ pub data LibraryRuns : (state : List ℕ) → List Call → List (Handed Meter v
       → Library s e c h
       → LibraryRuns e cs hs
       → LibraryRuns s (c ∷ cs) (h ∷ hs)
+  refused :
+      {s : List ℕ} {cs : List Call} {hs : List (Handed Meter view)} (c : Call) (e : List ℕ) (n : ℕ)
+      → OwnerCalled false c s e n
+      → LibraryRuns e cs hs
+      → LibraryRuns s cs hs
+
+-- on a whole image the library refuses for the arguments alone
+abbrev pub RefusedByArguments : Type 0
+RefusedByArguments =
+    (good : Bool) (c : Call) (s e : List ℕ) (n : ℕ)
+    → statusOf s ≡ Whole
+    → good ≡ false
+    → OwnerCalled good c s e n
+    → (n ≡ wrongArgument) × (e ≡ s)
 
 -- two buffers with whole images of meters that are alike but for the chosen registers, the same list of calls, whatever the two
 -- runs hand back: the same numbers and lengths, and the same bytes but for granted reads

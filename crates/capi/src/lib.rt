@@ -1,6 +1,7 @@
 // Birlimock for firmware in C and Rust: every call works on a state buffer that holds the image of a meter, and answers a
 // number. The library's own refusals come first: of the state buffer, then of an argument. Then the call of that name is made
-// on the meter in the buffer, and where it is accepted the changed meter is written back; a refused call writes nothing.
+// on the meter in the buffer, and the meter that comes back is written there: by an owner's call where it is accepted, by a frame call
+// unless its refusal leaves the meter unchanged. Else nothing is written.
 // include/birlimock.h has the calls as C sees them.
 mod lent;
 mod own;
@@ -149,7 +150,7 @@ pub extern "C" fn birlimock_tick(state: &mut [u8], clock: &[u8]) -> u8
 
 // The P5 flag is set by 1 and cleared by 0. Refusals 101 to 104 and 3.
 #[no_mangle]
-pub extern "C" fn birlimock_set_p5(state: &mut [u8], held: u8) -> u8
+pub extern "C" fn birlimock_set_p5(state: &mut [u8], held: u32) -> u8
     ensures { λ r. ⌜ OwnerCalled (isFlag held) (Call.setP5 (eqb held 1)) (now (state .entry)) (now (state .exit)) r ⌝ }
 {
     let read = image::read_image(state);

@@ -1,0 +1,322 @@
+//! States handed in: sound ones with everything that a meter can hold, unsound ones by each clause, and buffers that are
+//! no state. Names come from a small pool, so that lists meet.
+
+use crate::random::Random;
+use reference::clock::{days_in, is_due, Clock};
+use reference::image::{self, SIZE};
+use reference::meter::{self, Ciphered, Han, Meter, Plain, Register, Row, Verification, MOST_ROWS, OWN_NAMES};
+use reference::request::Name;
+use reference::soundness::{agreed, Clause, MOST_COLUMNS, MOST_REGISTERS, OFFERED_CIPHERED, OFFERED_PLAIN};
+
+pub const PERIODS: [u32; 16] = [30, 60, 90, 120, 150, 180, 240, 300, 360, 450, 600, 720, 900, 1200, 1800, 3600];
+
+/// Names that registers may bear, some of them one step beside a name of the meter's own.
+pub fn name(random: &mut Random) -> Name {
+    match random.below(8) {
+        0 => random.pick(&[[0, 0, 40, 0, 0, 255], [0, 0, 1, 0, 1, 255], [0, 0, 21, 0, 6, 254], [1, 0, 0, 9, 3, 255]]),
+        _ => [1, 0, random.between(1, 24) as u8, 8, 0, 255],
+    }
+}
+
+fn distinct_names(random: &mut Random, count: usize) -> Vec<Name> {
+    let mut names: Vec<Name> = vec![];
+    while names.len() < count {
+        let next = name(random);
+        if !names.contains(&next) {
+            names.push(next);
+        }
+    }
+    names
+}
+
+pub fn register(random: &mut Random, name: Name) -> Register {
+    let any = random_value(random);
+    let value = random.pick(&[0, 1, u32::MAX, any, any]);
+    Register { name, right: random.percent(75), scaler: random.byte(), unit: random.byte(), value }
+}
+
+fn random_value(random: &mut Random) -> u32 {
+    random.number32() >> random.below(32)
+}
+
+pub fn registers(random: &mut Random, count: usize) -> Vec<Register> {
+    distinct_names(random, count).into_iter().map(|name| register(random, name)).collect()
+}
+
+/// Some of the registers' names, in any order.
+pub fn columns(random: &mut Random, registers: &[Register], count: usize) -> Vec<Name> {
+    let mut left: Vec<Name> = registers.iter().map(|register| register.name).collect();
+    (0..count.min(left.len())).map(|_| left.swap_remove(random.below(left.len()))).collect()
+}
+
+/// A valid clock; half of them are due by this period.
+pub fn clock(random: &mut Random, period: u32) -> Clock {
+    let year = random.between(2000, 2099) as u16;
+    let month = random.between(1, 12) as u8;
+    let last_day = days_in(year, month);
+    let day = random.between(1, last_day.into()) as u8;
+    let day = random.pick(&[1, last_day, day]);
+    let second = match random.percent(50) && period != 0 && period <= 3600 {
+        true => random.below(3600 / period as usize) * period as usize,
+        false => random.below(3600),
+    };
+    let [high, low] = year.to_be_bytes();
+    let hour = random.below(24) as u8;
+    [high, low, month, day, 0xFF, hour, (second / 60) as u8, (second % 60) as u8, 0xFF, 0x80, 0, 0]
+}
+
+/// A clock that is wrong in one field.
+pub fn wrong_clock(random: &mut Random) -> Clock {
+    let mut clock = clock(random, 60);
+    let leap_day = 29 + u8::from(clock[1] % 4 == 0);
+    let (place, bytes) = match random.below(12) {
+        0 => (0, vec![0x07, 0xCF]),
+        1 => (0, vec![0x08, 0x34]),
+        2 => (2, vec![random.pick(&[0, 13, 0xFF])]),
+        3 => (3, vec![random.pick(&[0, 32, 0xFF])]),
+        4 => (2, vec![2, leap_day]),
+        5 => (2, vec![random.pick(&[4, 6, 9, 11]), 31]),
+        6 => (5, vec![random.pick(&[24, 0xFF])]),
+        7 => (6, vec![random.pick(&[60, 0xFF])]),
+        8 => (7, vec![random.pick(&[60, 0xFF])]),
+        9 => (random.pick(&[4, 8]), vec![random.pick(&[0, 1, 0xFE])]),
+        10 => (random.pick(&[9, 10]), vec![random.pick(&[0x81, 0x7F, 0x01])]),
+        _ => (11, vec![random.pick(&[1, 0x80, 0xFF])]),
+    };
+    clock[place..place + bytes.len()].copy_from_slice(&bytes);
+    clock
+}
+
+pub fn wrong_period(random: &mut Random) -> u32 {
+    let any = random.number32();
+    random.pick(&[0, 1, 15, 29, 31, 45, 61, 210, 270, 540, 1350, 3599, 7200, u32::MAX, 1 << 31, 65536 + 60, any | 1])
+}
+
+/// A counter, often near one of the ends.
+pub fn counter(random: &mut Random) -> u32 {
+    let near = random.below(400) as u32;
+    let any = random_value(random);
+    random.pick(&[near, near, u32::MAX - near, u32::MAX - near % 4, any])
+}
+
+fn services(random: &mut Random, offered: [u8; 3]) -> [u8; 3] {
+    match random.percent(75) {
+        true => offered,
+        false => agreed(random.array(), offered),
+    }
+}
+
+fn row(random: &mut Random, period: u32, number: u16, columns: usize) -> Row {
+    Row { number, clock: clock(random, period), cells: (0..columns).map(|_| random_value(random)).collect() }
+}
+
+/// A sound meter in any state; H is often associated.
+pub fn sound(random: &mut Random) -> Meter {
+    let period = random.pick(&PERIODS);
+    let register_count = random.pick(&[0, 1, 3, 6, 8, 12, MOST_REGISTERS, MOST_REGISTERS]);
+    let registers = registers(random, register_count);
+    let any = random.between(0, MOST_COLUMNS);
+    let column_count = random.pick(&[0, 1, 6, 6, 7, 11, any, any, MOST_COLUMNS]);
+    let columns = columns(random, &registers, column_count);
+    let record_number: u16 = random.pick(&[0, 1, 65533, 65534, 65535, 500]);
+    let any = random.between(0, MOST_ROWS);
+    let row_count = random.pick(&[0, 1, 10, any, any, MOST_ROWS - 1, MOST_ROWS, MOST_ROWS]);
+    let rows = (0..row_count).map(|i| row(random, period, record_number.wrapping_sub(i as u16), columns.len()));
+    let rows = rows.collect();
+    Meter {
+        title: random.field(),
+        verification: verification(random),
+        han: han(random),
+        p5: random.percent(20),
+        device: random.field(),
+        clock: clock(random, period),
+        period,
+        record_number,
+        registers,
+        columns,
+        rows,
+    }
+}
+
+fn verification(random: &mut Random) -> Verification {
+    let association = match random.below(3) {
+        0 => Plain::Associated(services(random, OFFERED_PLAIN)),
+        _ => Plain::Absent,
+    };
+    Verification { title: random.field(), linked: association != Plain::Absent || random.percent(40), association }
+}
+
+fn han(random: &mut Random) -> Han {
+    let (agreed, key) = (services(random, OFFERED_CIPHERED), random.field());
+    let association = match random.below(8) {
+        0..=3 => Ciphered::Associated { agreed, key },
+        4..=5 => Ciphered::Pending { agreed, key, client_challenge: random.field(), meter_challenge: random.field() },
+        _ => Ciphered::Absent,
+    };
+    let linked = association != Ciphered::Absent || random.percent(70);
+    Han { title: random.field(), linked, association, accepted: counter(random), sent: counter(random) }
+}
+
+/// A sound meter with H associated for all services, any number of columns and any number of rows.
+pub fn readable(random: &mut Random) -> Meter {
+    let mut meter = sound(random);
+    meter.registers = registers(random, MOST_REGISTERS);
+    let column_count = random.between(0, MOST_COLUMNS);
+    meter.columns = columns(random, &meter.registers, column_count);
+    let row_count = random.between(0, MOST_ROWS);
+    meter.rows = (0..row_count).map(|i| row(random, meter.period, i as u16, column_count)).collect();
+    meter.han.linked = true;
+    meter.han.association = Ciphered::Associated { agreed: OFFERED_CIPHERED, key: random.field() };
+    meter
+}
+
+/// The image of a meter; what the meter does not hold is any bytes that an image may have there.
+pub fn image(random: &mut Random, meter: &Meter) -> Vec<u8> {
+    let mut filling = match random.below(3) {
+        0 => vec![0; SIZE],
+        _ => random.bytes(SIZE),
+    };
+    for place in image::flag_places() {
+        filling[place] &= 1;
+    }
+    image::write(meter, &filling)
+}
+
+/// An image that fails this clause.
+pub fn unsound(random: &mut Random, clause: Clause) -> Vec<u8> {
+    let mut meter = rich(random);
+    spoil_lists(random, &mut meter, clause);
+    spoil_line(random, &mut meter, clause);
+    let mut image = image(random, &meter);
+    let counted = match clause {
+        Clause::RegisterCount => Some((image::REGISTER_COUNT_AT, MOST_REGISTERS)),
+        Clause::ColumnCount => Some((image::COLUMN_COUNT_AT, MOST_COLUMNS)),
+        Clause::RowCount => Some((image::ROW_COUNT_AT, MOST_ROWS)),
+        Clause::RowCells if random.percent(40) => Some((image::ROWS_AT + image::CELL_COUNT_IN, MOST_COLUMNS)),
+        _ => None,
+    };
+    if let Some((place, capacity)) = counted {
+        let right = image[place + 7];
+        image[place..place + 8].copy_from_slice(&count_above(random, capacity, right).to_be_bytes());
+    }
+    image
+}
+
+/// A sound meter with two registers, two columns and a row at least.
+fn rich(random: &mut Random) -> Meter {
+    loop {
+        let meter = sound(random);
+        if meter.columns.len() >= 2 && !meter.rows.is_empty() {
+            return meter;
+        }
+    }
+}
+
+/// A count that is too high; one that is cut to fewer bits may be the right one.
+fn count_above(random: &mut Random, capacity: usize, right: u8) -> u64 {
+    let above = capacity as u64 + 1;
+    let beyond = 1_u64 << random.pick(&[8, 16, 31, 32, 48, 63]);
+    random.pick(&[above, above, above + 1, 255, u64::MAX, beyond, beyond + u64::from(right)])
+}
+
+fn spoil_lists(random: &mut Random, meter: &mut Meter, clause: Clause) {
+    let register = random.place(meter.registers.len());
+    let column = random.place(meter.columns.len());
+    let row = random.place(meter.rows.len());
+    match clause {
+        Clause::RegisterTwice => {
+            let other = (register + random.between(1, meter.registers.len() - 1)) % meter.registers.len();
+            meter.registers[register].name = meter.registers[other].name;
+        }
+        Clause::RegisterOwnName => meter.registers[register].name = random.pick(&OWN_NAMES),
+        Clause::ColumnTwice => {
+            let other = (column + random.between(1, meter.columns.len() - 1)) % meter.columns.len();
+            meter.columns[column] = meter.columns[other];
+        }
+        Clause::ColumnNotGiven => {
+            let own = random.pick(&OWN_NAMES);
+            meter.columns[column] = random.pick(&[[1, 0, 99, 8, 0, 255], own, [0; 6]]);
+        }
+        Clause::Period => meter.period = wrong_period(random),
+        Clause::Clock => meter.clock = wrong_clock(random),
+        Clause::RowClock => meter.rows[row].clock = wrong_clock(random),
+        Clause::RowCells => {
+            meter.rows[row].cells.pop();
+        }
+        _ => {}
+    }
+}
+
+fn spoil_line(random: &mut Random, meter: &mut Meter, clause: Clause) {
+    let (v, h) = (&mut meter.verification, &mut meter.han);
+    let beyond = random.pick(&[[0, 0, 0x02], [0, 0, 0x08], [0, 0x10, 0], [0x80, 0, 0], [0, 0, 0xFF], [0, 0, 0x40]]);
+    let key = random.array();
+    let (client_challenge, meter_challenge) = (random.array(), random.array());
+    match clause {
+        Clause::VerificationKind => (v.linked, v.association) = (true, Plain::Pending),
+        Clause::VerificationWithoutLink => (v.linked, v.association) = (false, Plain::Associated([0, 0, 0x10])),
+        Clause::VerificationServices => {
+            let services = random.pick(&[beyond, [0, 0, 0x15], [0, 0, 0x01]]);
+            (v.linked, v.association) = (true, Plain::Associated(services));
+        }
+        Clause::HanWithoutLink => {
+            (h.linked, h.association) = (false, Ciphered::Associated { agreed: [0, 0, 0x15], key })
+        }
+        Clause::HanServices if random.percent(50) => {
+            (h.linked, h.association) = (true, Ciphered::Associated { agreed: beyond, key })
+        }
+        Clause::HanServices => {
+            let pending = Ciphered::Pending { agreed: beyond, key, client_challenge, meter_challenge };
+            (h.linked, h.association) = (true, pending)
+        }
+        _ => {}
+    }
+}
+
+/// A buffer that is no state: another size, another version, a wrong flag, a wrong phase.
+pub fn refused(random: &mut Random) -> Vec<u8> {
+    let meter = sound(random);
+    let mut image = image(random, &meter);
+    let flags = image::flag_places();
+    match random.below(4) {
+        0 => {
+            let length = random.pick(&[0, 1, SIZE - 1, SIZE + 1, 2 * SIZE]);
+            image.resize(length, 0);
+        }
+        1 => image[0] = random.pick(&[0, 2, 0xFF, 0x81]),
+        2 => image[flags[random.place(flags.len())]] = random.pick(&[2, 3, 0x80, 0xFF]),
+        _ => image[random.pick(&image::PHASE_PLACES)] = random.pick(&[3, 4, 0x80, 0xFF]),
+    }
+    image
+}
+
+/// The clock after this one that is due by the period: the tests would else wait long for rows.
+pub fn next_due(meter: &Meter) -> Clock {
+    let mut clock = meter.clock;
+    loop {
+        clock[7] = (clock[7] + 1) % 60;
+        clock[6] = if clock[7] == 0 { (clock[6] + 1) % 60 } else { clock[6] };
+        if is_due(&clock, meter.period) {
+            return clock;
+        }
+    }
+}
+
+/// Any object's name that H might ask for, and the class it has.
+pub fn object(random: &mut Random, meter: &Meter) -> (Name, u16) {
+    let own = [
+        (meter::CLOCK, 8),
+        (meter::TIME, 1),
+        (meter::DATE, 1),
+        (meter::DEVICE_NAME, 1),
+        (meter::PROFILE, 7),
+        (meter::RECORD_NUMBER, 3),
+    ];
+    match random.below(10) {
+        0..=2 if !meter.rows.is_empty() => (meter::PROFILE, 7),
+        0..=5 => random.pick(&own),
+        6..=8 if !meter.registers.is_empty() => (meter.registers[random.below(meter.registers.len())].name, 3),
+        9 => random.pick(&[(meter::CHALLENGE, 15), ([0, 0, 40, 0, 0, 255], 15), ([0; 6], 1)]),
+        _ => (name(random), 3),
+    }
+}

@@ -1,0 +1,60 @@
+//! Envelopes and challenge proofs (document 01, "The envelope and its counters").
+
+use crate::aes::Block;
+use crate::bytes::{part, Reader};
+use crate::gcm;
+
+pub type Title = [u8; 8];
+pub type Challenge = [u8; 8];
+
+const SECURITY_CONTROL: u8 = 0x30;
+const PROOF_CONTROL: u8 = 0x10;
+const TAG_LENGTH: usize = 12;
+
+/// Whose envelopes: the sender's title, the key and the authentication key.
+pub struct Sender {
+    pub title: Title,
+    pub key: Block,
+    pub authentication: Block,
+}
+
+impl Sender {
+    fn nonce(&self, counter: u32) -> gcm::Nonce {
+        let mut nonce = [0; 12];
+        nonce[..8].copy_from_slice(&self.title);
+        nonce[8..].copy_from_slice(&counter.to_be_bytes());
+        nonce
+    }
+
+    fn associated(&self) -> Vec<u8> {
+        [&[SECURITY_CONTROL], &self.authentication[..]].concat()
+    }
+
+    /// The counter and the plain text of an envelope, where it has its shape and its tag is right.
+    pub fn open(&self, tag: u8, apdu: &[u8]) -> Option<(u32, Vec<u8>)> {
+        let mut outer = Reader::new(apdu);
+        let content = outer.part(tag)?;
+        outer.end()?;
+        let mut inner = Reader::new(content);
+        inner.fixed(&[SECURITY_CONTROL])?;
+        let counter = inner.number32()?;
+        let sealed = inner.rest();
+        let (cipher_text, seal) = sealed.split_at(sealed.len().checked_sub(TAG_LENGTH)?);
+        let plain = gcm::open(&self.key, &self.nonce(counter), &self.associated(), cipher_text, seal)?;
+        Some((counter, plain))
+    }
+
+    /// The envelope of a plain text under this counter.
+    pub fn close(&self, tag: u8, counter: u32, plain: &[u8]) -> Vec<u8> {
+        let (cipher_text, seal) = gcm::seal(&self.key, &self.nonce(counter), &self.associated(), plain);
+        let content = [&[SECURITY_CONTROL], &counter.to_be_bytes()[..], &cipher_text, &seal[..TAG_LENGTH]].concat();
+        part(tag, &content)
+    }
+
+    /// What proves to the one who drew the challenge that this sender holds the keys: 10, the counter, the GMAC.
+    pub fn proof(&self, counter: u32, challenge: &Challenge) -> Vec<u8> {
+        let covered = [&[PROOF_CONTROL], &self.authentication[..], challenge].concat();
+        let (_, seal) = gcm::seal(&self.key, &self.nonce(counter), &covered, &[]);
+        [&[PROOF_CONTROL], &counter.to_be_bytes()[..], &seal[..TAG_LENGTH]].concat()
+    }
+}
