@@ -1,8 +1,8 @@
 // GHASH (SP 800-38D, 6.3 and 6.4). A block is two words by value. The product goes four bits at a time, by two tables: the
 // products of the hash subkey, made once for each call, and the feedback of four shifts.
 ghost use mathlib.Core.Path.{_≡_};
-ghost use Prim.Native.Nat.{_/_, _<_};
-ghost use lib.ListN.{getD};
+ghost use Prim.Native.Nat.{_+_, _/_, _<_, _≤_};
+ghost use lib.ListN.{getD, length};
 ghost use lib.Bits.{bitXor};
 ghost use Rattle.gf2.specs.Shift.{step, steps};
 ghost use Rattle.ghash.specs.Product.{R, product, num};
@@ -144,13 +144,20 @@ pub fn xor(a: Block, b: Block) -> Block
     }
 }
 
-// The first sixteen bytes as a block; a byte past the end is 0.
+// The first sixteen bytes as a block; a byte past the end is 0. A short block's last word is read first, lest the compiler
+// share its reads with those of a whole block, and split these.
 pub fn load(s: &[u8]) -> Block
     ensures { λ r. ⌜ num r ≡ block (now (s .entry)) ⌝ }
 {
+    if s.len() < 16 {
+        return Block {
+            lo: load_word(s, 8),
+            hi: load_word(s, 0),
+        };
+    }
     Block {
-        hi: load_word(s, 0),
-        lo: load_word(s, 8),
+        hi: whole_word(s, 0),
+        lo: whole_word(s, 8),
     }
 }
 
@@ -246,6 +253,26 @@ fn load_word(s: &[u8], a: u8) -> u64
         + (byte_at(s, i + 5) as u64) * 0x1_0000
         + (byte_at(s, i + 6) as u64) * 0x100
         + (byte_at(s, i + 7) as u64)
+}
+
+// The same where all eight bytes are there: no place is tested, and the compiler makes it one read.
+fn whole_word(s: &[u8], i: usize) -> u64
+    requires { ⌜ i + 8 ≤ length (now s) ⌝ }
+    ensures { λ r. ⌜ r ≡ word64 (now (s .entry)) i ⌝ }
+{
+    let w2 = wide(s[i]) * 256 + wide(s[i + 1]);
+    let w3 = w2 * 256 + wide(s[i + 2]);
+    let w4 = w3 * 256 + wide(s[i + 3]);
+    let w5 = w4 * 256 + wide(s[i + 4]);
+    let w6 = w5 * 256 + wide(s[i + 5]);
+    let w7 = w6 * 256 + wide(s[i + 6]);
+    w7 * 256 + wide(s[i + 7])
+}
+
+fn wide(b: u8) -> u64
+    ensures { λ r. ⌜ (r ≡ b) × (r < 256) ⌝ }
+{
+    b as u64
 }
 
 // At each number of four bits, the first word of what four shifts with feedback make of it; the last word is 0.
