@@ -1,11 +1,14 @@
 // The home display, "H" of document 01: it links, asks for an association, proves that it holds the keys, reads and leaves. What
-// it tells comes from the bytes of the meter's answers alone; an answer that it cannot read ends its visit with a line.
+// it tells of the meter comes from the bytes of the answers; which columns it reads, and their unit, it knows beforehand. An
+// answer that does not open, or does not confirm what was asked, ends its visit with a line. What a read brings is no such
+// matter: an answer without rows, or without a code, is told by a line, and the visit goes on.
 use crate::frames;
 use crate::frames::Bytes;
 use crate::plug;
 use crate::text::after;
 use crate::text::first;
 use crate::text::line;
+use crate::text::note;
 use crate::text::print;
 use crate::text::right;
 use envelope::Admission;
@@ -19,7 +22,7 @@ use wire::Field;
 const REACTIVE: [u8; 13] = *b"\xC0\x01\xC1\x00\x03\x01\x00\x03\x08\x00\xFF\x02\x00";
 
 // What the home display knows: the counters, of which `accepted` is the meter's last and `sent` its own; the meter's title and
-// challenge; whether all went well; three frames as they were sent; and the text of the answer that has the rows.
+// challenge; whether all went well; its four sealed frames as they were sent; and the text of the answer that has the rows.
 pub struct Talk {
     pub pair: Counters,
     pub title: [u8; 8],
@@ -27,7 +30,8 @@ pub struct Talk {
     pub right: bool,
     pub aarq: Bytes,
     pub proof: Bytes,
-    pub get: Bytes,
+    pub rows: Bytes,
+    pub reactive: Bytes,
     pub text: [u8; 765],
     pub size: usize,
 }
@@ -66,7 +70,8 @@ pub fn unlinked() -> Talk {
         right: true,
         aarq: none,
         proof: none,
-        get: none,
+        rows: none,
+        reactive: none,
         text: [0; 765],
         size: 0,
     }
@@ -78,9 +83,9 @@ pub fn request(talk: Talk, step: u8) -> Made {
         0 => sending(talk, frames::link(0x93)),
         1 => make_aarq(talk),
         2 => make_proof(talk),
-        3 => make_get(talk),
-        4 => sealed_get(talk, &REACTIVE),
-        5 => sending(talk, frames::plain(b"\x62\x03\x80\x01\x00")),
+        3 => make_rows(talk),
+        4 => make_reactive(talk),
+        5 => sending(talk, frames::release()),
         _ => sending(talk, frames::link(0x53)),
     }
 }
@@ -129,12 +134,21 @@ fn make_proof(talk: Talk) -> Made {
     sending(t, frame)
 }
 
-// The GET of the rows is kept as it was sent.
-fn make_get(talk: Talk) -> Made {
+// The GET of the rows.
+fn make_rows(talk: Talk) -> Made {
     let m = sealed_get(talk, &frames::ROWS);
     let mut t = m.talk;
     let frame = m.frame;
-    t.get = frame;
+    t.rows = frame;
+    sending(t, frame)
+}
+
+// The GET of the register that the home display has no right to.
+fn make_reactive(talk: Talk) -> Made {
+    let m = sealed_get(talk, &REACTIVE);
+    let mut t = m.talk;
+    let frame = m.frame;
+    t.reactive = frame;
     sending(t, frame)
 }
 
@@ -288,8 +302,10 @@ fn filled(talk: Talk, reply: &[u8]) -> Talk {
 fn denied(talk: Talk, reply: &[u8]) -> Talk {
     let mut text = [0u8; 765];
     let h = unsealed(talk, 0xD4, reply, &mut text);
-    print_code(text_of(&text, h.size));
     let t = h.talk;
+    if t.right {
+        print_code(text_of(&text, h.size));
+    }
     t
 }
 
@@ -358,9 +374,4 @@ fn stopped(talk: Talk, words: &[u8]) -> Talk {
     let mut t = talk;
     t.right = false;
     t
-}
-
-fn note(words: &[u8]) {
-    print(b"       ");
-    line(words);
 }

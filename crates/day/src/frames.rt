@@ -1,4 +1,5 @@
-// The frames that a client sends, made as document 01 lays them out, and the APDU of a frame that it received.
+// The frames that a client sends, made as document 01 lays them out, and the APDU of a frame that it received. Sender and
+// receiver are those of the home display throughout: the stranger sends in its name.
 use crate::text::first;
 use envelope::Keys;
 use hdlc::Head;
@@ -81,7 +82,12 @@ pub fn get(keys: Keys, counter: u32, request: &[u8]) -> Bytes {
     data(sealed(keys, 0xD0, counter, with(none(), request)))
 }
 
-// The release of an association, or any APDU that is sent plain.
+// The release of an association, which is not sealed.
+pub fn release() -> Bytes {
+    plain(b"\x62\x03\x80\x01\x00")
+}
+
+// An APDU that is sent plain.
 pub fn plain(apdu: &[u8]) -> Bytes {
     data(with(none(), apdu))
 }
@@ -90,15 +96,12 @@ pub fn plain(apdu: &[u8]) -> Bytes {
 fn sealed(keys: Keys, tag: u8, counter: u32, text: Bytes) -> Bytes {
     let items = text.items;
     let part = first(&items, text.count);
-    enclosed(keys, tag, counter, part, part.len())
+    enclosed(keys, tag, counter, part)
 }
 
-// The same around `n` bytes.
-fn enclosed(keys: Keys, tag: u8, counter: u32, text: &[u8], n: usize) -> Bytes {
+fn enclosed(keys: Keys, tag: u8, counter: u32, text: &[u8]) -> Bytes {
+    let n = text.len();
     if 100 < n {
-        return none();
-    }
-    if text.len() != n {
         return none();
     }
     let mut out = [0u8; 128];
@@ -118,6 +121,7 @@ pub fn none() -> Bytes {
 fn with(b: Bytes, s: &[u8]) -> Bytes {
     let held = b.items;
     let part = first(&held, b.count);
+    // A part of 128 bytes is never longer, but `first` promises no length, and the subtraction needs it.
     if 128 < part.len() {
         return b;
     }

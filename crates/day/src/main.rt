@@ -27,14 +27,15 @@ struct Scene {
     talk: Talk,
 }
 
-// The steps of the home display, up to the last before it leaves and to its end; then those of the stranger.
+// The steps of the home display, up to the last before it leaves and to its end; then those of the stranger, at the plug before
+// the display has left it and after.
 const READ: u8 = 5;
 
 const LEFT: u8 = 7;
 
 const CUT_IN: u8 = 9;
 
-const REPEATED: u8 = 16;
+const REPEATED: u8 = 19;
 
 fn main() {
     let w = asked_for();
@@ -72,7 +73,7 @@ fn night(shown: bool) {
         \x20  An association is the agreement under which the display may read. What is sealed is encrypted and marked by\n\
         \x20  the keys, so that nobody without them can read it or make it. Each request also goes to a twin of the meter,\n\
         \x20  in which nothing is different but every value: where both answer with the same bytes, the answer tells\n\
-        \x20  nothing of any value.\n\
+        \x20  nothing of any value. This shows it for one other set of values; for all values it is proved.\n\
         \n",
     );
     plug::heading();
@@ -136,6 +137,7 @@ fn stepped(scene: Scene, step: u8) -> Scene {
         };
     }
     let a = plug::ask(p, step, stranger::request(known, step), &mut reply);
+    stranger::explain(step, a.refusal);
     let next = a.plug;
     Scene {
         plug: next,
@@ -147,10 +149,6 @@ fn print_rows(known: Talk) {
     print(b"\n3. The rows as the home display has read them, the oldest first\n\n");
     let text = known.text;
     table::print_rows(first(&text, known.size));
-    print(
-        b"\n\
-        \x20  * This time stands in two rows. The record number tells which of them was first.\n",
-    );
 }
 
 // The stranger, at the plug before the home display has left it and after.
@@ -159,8 +157,10 @@ fn intrude(read: Plug, left: Plug, known: Talk) {
         b"\n\
         4. A stranger without keys, who has recorded every frame of the home display\n\
         \n\
-        \x20  Each sealed request has a counter. It has to be above the last one that was accepted, by 180 at most; else\n\
-        \x20  the meter is silent and the association ends.\n\
+        \x20  Within an association each sealed request has a counter, which has to be above the last one accepted, by\n\
+        \x20  180 at most; else the meter is silent and the association ends. The request for an association is free of\n\
+        \x20  this: after it the display has still to answer the challenge. Each of the two tables starts from the meter\n\
+        \x20  as the home display had left it at that point.\n\
         \n\
         \x20  While the home display is still associated:\n\
         \n",
@@ -175,7 +175,8 @@ fn intrude(read: Plug, left: Plug, known: Talk) {
     plug::heading();
     let b = played(unknown(left, known), CUT_IN, REPEATED);
     print(
-        b"       The recorded entry is refused because the meter's challenge is a new one each time.\n\n",
+        b"\n\
+        \x20  A link and its end are not sealed: who holds the cable can call and hang up.\n",
     );
     let p = a.plug;
     let q = b.plug;

@@ -3,6 +3,7 @@
 use crate::text::line;
 use crate::text::print;
 use crate::text::right;
+use crate::text::wide;
 use meter::Changed;
 use meter::Meter;
 use model::Clock;
@@ -14,6 +15,11 @@ const TICKS: u32 = 31;
 
 // The tick at which the clock is set back.
 const SET_BACK: u32 = 15;
+
+// Units: Wh, and varh for the reactive energy.
+const WATT_HOURS: u8 = 30;
+
+const VAR_HOURS: u8 = 32;
 
 // The meter, and the number of the first owner's call that was refused, or 0.
 pub struct Night {
@@ -58,10 +64,6 @@ pub fn report(refusal: u8) {
     line(b".");
 }
 
-fn wide(b: u8) -> u64 {
-    b as u64
-}
-
 // A new meter with its registers, its columns and a quarter of an hour as the period.
 fn prepared() -> Night {
     let m = Meter::new(
@@ -74,10 +76,10 @@ fn prepared() -> Night {
         meter: m,
         refusal: 0,
     };
-    let mut registers = [register(day_rate(), true); 16];
-    registers[1] = register(night_rate(), true);
-    registers[2] = register(exported(), true);
-    registers[3] = register(reactive(), false);
+    let mut registers = [register(day_rate(), WATT_HOURS, true); 16];
+    registers[1] = register(night_rate(), WATT_HOURS, true);
+    registers[2] = register(exported(), WATT_HOURS, true);
+    registers[3] = register(reactive(), VAR_HOURS, false);
     let a = after(n, m.give_registers(registers, 4));
     let b = a.meter;
     let mut columns = [day_rate(); 16];
@@ -177,13 +179,13 @@ fn reactive() -> Name {
     }
 }
 
-// A register in watt hours.
-fn register(name: Name, readable: bool) -> Register {
+// A register that counts whole units, from 0 on.
+fn register(name: Name, unit: u8, readable: bool) -> Register {
     Register {
         name,
         readable,
         scaler: 0,
-        unit: 30,
+        unit,
         value: 0,
     }
 }

@@ -1,11 +1,13 @@
 // The plug: every request goes to the meter and to its twin, a meter that is alike but for its values, which are all different.
-// Where both answer with the same number and the same bytes, the answer tells nothing of any value.
+// Where both answer with the same number and the same bytes, nothing tells these values from those. That this holds for all
+// values is not shown here but proved: demand 3, in the crates `protocol` and `p2`.
 use crate::frames::Bytes;
 use crate::text;
 use crate::text::entry;
 use crate::text::first;
 use crate::text::line;
 use crate::text::print;
+use crate::text::wide;
 use meter::Meter;
 use p2::Received;
 
@@ -23,9 +25,10 @@ pub struct Plug {
     pub told: bool,
 }
 
-// The plug after a request, and how many bytes of the reply room are the answer.
+// The plug after a request, the number of the refusal or 0, and how many bytes of the reply room are the answer.
 pub struct Answer {
     pub plug: Plug,
+    pub refusal: u8,
     pub count: usize,
 }
 
@@ -62,6 +65,7 @@ pub fn ask(plug: Plug, step: u8, frame: Bytes, reply: &mut [u8]) -> Answer {
             shown: plug.shown,
             told: if alike { plug.told } else { true },
         },
+        refusal: r.refusal,
         count: r.count,
     }
 }
@@ -98,11 +102,7 @@ fn print_frames(frame: &[u8], answer: &[u8]) {
     text::frame(b"     answer  ", answer)
 }
 
-fn wide(b: u8) -> u64 {
-    b as u64
-}
-
-// What is asked in each step: seven of the home display, then two and seven of the stranger.
+// What is asked in each step: seven of the home display, then two and ten of the stranger.
 fn print_words(step: u8) {
     entry(
         b"a link                                        \
@@ -120,7 +120,10 @@ fn print_words(step: u8) {
         an association, sealed with keys of its own   \
         an association, by the recorded frame         \
         entry, by the recorded frame                  \
-        the rows, by the recorded frame               ",
+        the rows, by the recorded frame               \
+        the reactive energy, by the recorded frame    \
+        the end of the association                    \
+        the end of the link                           ",
         step,
     )
 }

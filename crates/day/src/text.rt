@@ -1,4 +1,5 @@
-// Plain text on the standard output: words, numbers and bytes, in columns.
+// Plain text on the standard output: words, numbers and bytes, in columns. Where nothing can be written, the program goes on
+// without a word: there is no place left to say it.
 use libc::STDOUT_FILENO;
 ghost use Prim.Native.Nat.{_<_};
 
@@ -19,6 +20,12 @@ pub fn line(s: &[u8]) {
     print(b"\n");
 }
 
+// A line beneath that of a request.
+pub fn note(words: &[u8]) {
+    print(b"       ");
+    line(words);
+}
+
 // The first `n` bytes, or all where there are fewer.
 pub fn first(s: &[u8], n: usize) -> &[u8] {
     if n < s.len() { &s[0..n] } else { s }
@@ -31,7 +38,7 @@ pub fn after(s: &[u8], n: usize) -> &[u8] {
 
 // The entry of this number in a table of words, in which each takes 46 bytes.
 pub fn entry(table: &[u8], k: u8) {
-    print(first(after(table, wide(k) * ENTRY), ENTRY));
+    print(first(after(table, wide(k) as usize * ENTRY), ENTRY));
 }
 
 // A number at the right of a column.
@@ -74,7 +81,7 @@ pub fn frame(mark: &[u8], s: &[u8]) {
         if i % LINE == 0 {
             begin(mark, i);
         }
-        hex(wide(s[i]));
+        hex(wide(s[i]) as usize);
         i += 1;
     }
     print(b"\n");
@@ -94,8 +101,9 @@ fn hex(v: usize) {
     print(&pair);
 }
 
-fn wide(b: u8) -> usize
+// A byte as a number.
+pub fn wide(b: u8) -> u64
     ensures { λ r. ⌜ r < 256 ⌝ }
 {
-    b as usize
+    b as u64
 }

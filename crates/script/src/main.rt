@@ -58,15 +58,16 @@ fn part(session: Session, line: &mut [u8; LONGEST], out: &mut [u8; answer::ROOM]
     flushed(fed, out)
 }
 
-// The end of the input: a line that is held is a line.
+// The end of the input: a line that is held is a line, but not where reading failed in the middle of it.
 fn ended(
-    session: Session,
+    mut session: Session,
     failed: bool,
     line: &mut [u8; LONGEST],
     out: &mut [u8; answer::ROOM],
 ) -> Session {
     if failed {
         io::write_all(STDERR_FILENO, b"script: standard input cannot be read\n");
+        session.held = 0;
     } else if !session.begun {
         io::write_all(STDERR_FILENO, b"script: standard input is empty\n");
     }

@@ -1,4 +1,5 @@
-// The answer to a line, written into a buffer that is written out whenever it is full, and when the session asks for it.
+// The answer to a line, written into a buffer that is written out whenever it is full, and when the session asks for it. Once
+// writing has failed, answers are still put into the buffer and go nowhere.
 use crate::lines::first;
 use libc::STDOUT_FILENO;
 ghost use Prim.Native.Nat.{_<_};
