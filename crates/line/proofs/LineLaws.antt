@@ -6,12 +6,15 @@ use Prim.Native.Nat.{ℕ}
 use native.Mathlib.Omega.{arith}
 use lib.Bits.{bitAnd}
 use lib.Dec.{eqb}
-use lib.ListN.{length, getD}
+use lib.ListN.{length, getD, replicate}
+use Rattle.model.specs.declared.Client.{Client}
+use Rattle.model.specs.declared.Client.the-variants.{Verification, Han}
 use Rattle.model.specs.Services.{within}
 use Rattle.model.specs.State.{newPeer, noCounters}
 use Rattle.line.specs.declared.Party.{Party}
 use Rattle.line.specs.declared.LineState.{LineState}
 use Rattle.line.specs.View.{peerOf, lineOf}
+use Rattle.line.specs.Left.{NoSecrets, Wiped}
 
 -- the byte at a place lies within the other
 abbrev pub byteWithin : List ℕ → List ℕ → ℕ → Bool
@@ -38,3 +41,8 @@ fresh-line l p v h e f g n =
     let x = e [] [] [] in
     let y = ap (λ (q : Party). peerOf q (l .han .key) (l .han .client) (l .han .meter)) f ∙ g (l .han .key) (l .han .client) (l .han .meter) in
     λ i. record { title = l .title; verification = x i; han = record { peer = y i; counters = n i }; p5 = l .p5 }
+
+-- nothing is left of either client's association
+pub left-nothing : (l : LineState) → l .verification .agreed ≡ replicate 3 0 → NoSecrets l → (c : Client) → Wiped c l
+left-nothing l v h Verification = v
+left-nothing l v h Han = h

@@ -4,10 +4,11 @@ use model::Counters;
 ghost use mathlib.Core.Path.{_≡_};
 ghost use mathlib.Core.List.{List};
 ghost use Prim.Native.Nat.{ℕ};
+ghost use lib.ListN.{replicate};
 ghost use Rattle.model.specs.Services.{within};
 ghost use Rattle.model.specs.Soundness.{agreedWithin, kindsKnown, linksStand, onLink, servicesOffered};
 ghost use Rattle.model.specs.State.{newPeer, noCounters};
-ghost use Rattle.model.specs.Calls.{poweredLine};
+ghost use Rattle.line.specs.Left.{Restarted};
 ghost use Rattle.line.specs.View.{associationOf, lineOf, lineSound, newLine, peerOf};
 
 // How far an association has come.
@@ -151,7 +152,7 @@ pub fn new_line(title: [u8; 8], verification: [u8; 8], han: [u8; 8]) -> LineStat
 
 // Links and associations end and counters are cleared; an ended association leaves nothing in its fields.
 pub fn powered_up(line: LineState) -> LineState
-    ensures { λ r. ⌜ lineOf r ≡ poweredLine (lineOf line) ⌝ }
+    ensures { λ r. ⌜ Restarted line r ⌝ }
 {
     let title = line.title;
     let v = line.verification;
@@ -172,7 +173,7 @@ pub fn powered_up(line: LineState) -> LineState
 
 // A client whose link is down; its association is none, whatever key and challenges stand beside it.
 fn new_party(title: [u8; 8]) -> Party
-    ensures { λ r. ⌜ ((k c s : List ℕ) → peerOf r k c s ≡ newPeer title) ⌝ }
+    ensures { λ r. ⌜ ((k c s : List ℕ) → peerOf r k c s ≡ newPeer title) × (r .agreed ≡ replicate 3 0) ⌝ }
 {
     Party {
         title,
@@ -183,7 +184,7 @@ fn new_party(title: [u8; 8]) -> Party
 }
 
 fn new_cipher_party(party: Party) -> CipherParty
-    ensures { λ r. ⌜ (r .party ≡ party) × (r .counters ≡ noCounters) ⌝ }
+    ensures { λ r. ⌜ (r .party ≡ party) × (r .counters ≡ noCounters) × (r .key ≡ replicate 16 0) × (r .client ≡ replicate 8 0) × (r .meter ≡ replicate 8 0) ⌝ }
 {
     let counters = Counters {
         accepted: 0,

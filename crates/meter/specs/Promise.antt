@@ -2,8 +2,10 @@
 use mathlib.Core.Path.{_≡_}
 use mathlib.Core.List.{[]}
 use Prim.Native.Nat.{ℕ}
-use Rattle.model.specs.Calls.{Call, Protocol}
+use Rattle.model.specs.declared.Client.{Client}
+use Rattle.model.specs.Calls.{Call, powerUp, Protocol}
 use Rattle.model.specs.Demand3.{Handed, Promised}
+use Rattle.line.specs.Left.{Wiped}
 use Rattle.meter.specs.declared.Meter.{Meter}
 use Rattle.meter.specs.declared.Changed.{Changed}
 use Rattle.meter.specs.View.{view}
@@ -19,3 +21,8 @@ handed r = record { refusal = r .refusal; count = 0; meter = r .meter; before = 
 pub record Owned (c : Call) (m : Meter) (r : Changed) : Type 0 where
   pub promised : (p : Protocol) → Promised Meter view p c m (handed r)
   pub kept : (r .refusal ≡ 0 → ⊥) → r .meter ≡ m
+
+-- power-up promises more: nothing is left of any association
+pub record PoweredUp (m : Meter) (r : Changed) : Type 0 where
+  pub owned : Owned powerUp m r
+  pub wiped : r .refusal ≡ 0 → (c : Client) → Wiped c (r .meter .line)

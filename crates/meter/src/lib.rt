@@ -15,7 +15,7 @@ ghost use Rattle.model.specs.Soundness.{sound};
 ghost use Rattle.model.specs.Calls.{Call};
 ghost use Rattle.store.specs.Lists.{held};
 ghost use Rattle.meter.specs.View.{view};
-ghost use Rattle.meter.specs.Promise.{Owned, changed};
+ghost use Rattle.meter.specs.Promise.{Owned, PoweredUp, changed};
 
 pub struct Meter {
     pub line: LineState,
@@ -168,9 +168,9 @@ impl Meter {
         accepted(self)
     }
 
-    // Power-up: links and associations end; counters, rows and record number are cleared. Refusal 3.
+    // Power-up: links and associations end, of which nothing is left; counters, rows and record number are cleared. Refusal 3.
     pub fn power_up(mut self) -> Changed
-        ensures { λ r. ⌜ Owned Call.powerUp self r ⌝ }
+        ensures { λ r. ⌜ PoweredUp self r ⌝ }
     {
         let m = self;
         if !is_sound(m) {

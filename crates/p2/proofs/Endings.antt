@@ -37,7 +37,7 @@ use Rattle.body.specs.declared.BodyState.{BodyState}
 use Rattle.body.specs.View.{bodyOf}
 use Rattle.meter.specs.declared.Meter.{Meter}
 use Rattle.meter.specs.View.{view}
-use Rattle.association.specs.Ends.{Wiped}
+use Rattle.line.specs.Left.{Wiped}
 use Rattle.protocol.specs.Clients.{peer, withPeer, associates, withCounters, dedicatedKeys}
 use Rattle.protocol.specs.Rulings.{Test, refusalOf, Reply, bytesOf, Ruling, says, asks}
 use Rattle.protocol.specs.Outcomes.{keeping}

@@ -20,7 +20,7 @@ use Rattle.protocol.specs.Clients.{peer}
 use Rattle.protocol.specs.Rulings.{Ruling, decision}
 use Rattle.protocol.specs.Decide.{p2}
 use Rattle.protocol.specs.Outcomes.{keeping}
-use Rattle.association.specs.Ends.{Wiped}
+use Rattle.line.specs.Left.{Wiped}
 use Rattle.p2.specs.declared.Received.{Received}
 
 -- what is lent to a call: of the reply room its length

@@ -10,7 +10,7 @@ returns c = owner-refused refl (c .before .before .read-image .ensures) (c .befo
 
 returns-2 : tie.Need-returns-2
 returns-2 c =
-    owner-called refl (c .before .before .before .before .before .before .before .before .read-image .ensures) (c .before .before .before .before .before .before .before .own-refusal .ensures) (c .before .before .before .before .before .before .if1 .left) (λ _. c .before .before .before .before .power-up .ensures) (c .before .before .end .ensures)
+    owner-called refl (c .before .before .before .before .before .before .before .before .read-image .ensures) (c .before .before .before .before .before .before .before .own-refusal .ensures) (c .before .before .before .before .before .before .if1 .left) (λ _. c .before .before .before .before .power-up .ensures .owned) (c .before .before .end .ensures)
 
 pub birlimock-power-up-spec : {M : Type 1} → statement M
 birlimock-power-up-spec = tie.close (tie.spec (λ c κs. search needs) (λ c κs. search needs) (λ c. search needs) returns (λ c κs. search needs) (λ c κs. search needs) (λ c. search needs) returns-2)

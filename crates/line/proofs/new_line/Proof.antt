@@ -7,7 +7,7 @@ use Rattle.line.proofs.new_line.Tie as tie
 
 returns : tie.Need-returns
 unfolding newMeter
-returns c = fresh-line _ (c .before .new-party2 .result) _ _ (c .before .before .new-party .ensures) (c .new-cipher-party .ensures .0) (c .before .new-party2 .ensures) (c .new-cipher-party .ensures .1)
+returns c = fresh-line _ (c .before .new-party2 .result) _ _ (c .before .before .new-party .ensures .0) (c .new-cipher-party .ensures .0) (c .before .new-party2 .ensures .0) (c .new-cipher-party .ensures .1)
 
 pub new-line-spec : {M : Type 1} → statement M
 new-line-spec = tie.close (tie.spec (λ c κs. search needs) (λ c κs. search needs) (λ c κs. search needs) returns)

@@ -1,5 +1,6 @@
 -- `meter::Meter::power_up` meets its contract.
 use mathlib.Core.Path.{refl, sym, _∙_}
+use native.Mathlib.Omega.{arith}
 use borrow.Author.Tests.{not-true, not-false}
 use Rattle.meter.proofs.MeterLaws.{unsound, accepts, powered}
 use borrow.Author.Needs.{needs}
@@ -7,10 +8,10 @@ use Rattle.meter.proofs.Meter.power_up.Statement.{statement}
 use Rattle.meter.proofs.Meter.power_up.Tie as tie
 
 returns : tie.Need-returns
-returns c = rw (c .refused .ensures) (unsound _ _ refl (sym (c .before .before .is-sound .ensures) ∙ not-true _ (c .before .if1 .taken)))
+returns c = rw (c .refused .ensures) (record { owned = unsound _ _ refl (sym (c .before .before .is-sound .ensures) ∙ not-true _ (c .before .if1 .taken)); wiped = λ z. absurd (omega arith) })
 
 returns-2 : tie.Need-returns-2
-returns-2 c = rw (c .accepted .ensures) (accepts _ (c .before .before .before .before .before .before .before .args .self) refl _ (sym (c .before .before .before .before .before .before .is-sound .ensures) ∙ not-false _ (c .before .before .before .before .before .if1 .left)) (λ p. powered p (c .before .before .before .before .before .before .before .args .self) _ _ (c .before .before .before .powered-up .ensures) (c .before .no-rows .ensures)))
+returns-2 c = rw (c .accepted .ensures) (record { owned = accepts _ (c .before .before .before .before .before .before .before .args .self) refl _ (sym (c .before .before .before .before .before .before .is-sound .ensures) ∙ not-false _ (c .before .before .before .before .before .if1 .left)) (λ p. powered p (c .before .before .before .before .before .before .before .args .self) _ _ (c .before .before .before .powered-up .ensures .view) (c .before .no-rows .ensures)); wiped = λ _. c .before .before .before .powered-up .ensures .wiped })
 
 pub power-up-spec : {M : Type 1} → statement M
 power-up-spec = tie.close (tie.spec (λ c κs. search needs) (λ c κs. search needs) returns (λ c κs. search needs) (λ c κs. search needs) (λ c κs. search needs) returns-2)
