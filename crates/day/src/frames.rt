@@ -121,10 +121,6 @@ pub fn none() -> Bytes {
 fn with(b: Bytes, s: &[u8]) -> Bytes {
     let held = b.items;
     let part = first(&held, b.count);
-    // A part of 128 bytes is never longer, but `first` promises no length, and the subtraction needs it.
-    if 128 < part.len() {
-        return b;
-    }
     if 128 - part.len() < s.len() {
         return b;
     }

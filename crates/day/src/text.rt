@@ -1,7 +1,8 @@
 // Plain text on the standard output: words, numbers and bytes, in columns. Where nothing can be written, the program goes on
 // without a word: there is no place left to say it.
 use libc::STDOUT_FILENO;
-ghost use Prim.Native.Nat.{_<_};
+ghost use Prim.Native.Nat.{_<_, _≤_};
+ghost use lib.ListN.{length};
 
 const DIGITS: [u8; 16] = *b"0123456789ABCDEF";
 
@@ -27,7 +28,9 @@ pub fn note(words: &[u8]) {
 }
 
 // The first `n` bytes, or all where there are fewer.
-pub fn first(s: &[u8], n: usize) -> &[u8] {
+pub fn first(s: &[u8], n: usize) -> &[u8]
+    ensures { λ r. ⌜ length (now r) ≤ length (now (s .entry)) ⌝ }
+{
     if n < s.len() { &s[0..n] } else { s }
 }
 

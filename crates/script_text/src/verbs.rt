@@ -1,4 +1,5 @@
-// The verb that a line begins with. No verb begins another, so the first that stands there whole is the one.
+// The verb that a line begins with. No verb begins another, so the first that stands there whole is the one. Where none does,
+// the line is wrong behind the longest beginning that it shares with a verb.
 use crate::fields::Cursor;
 use crate::fields::good;
 use crate::fields::wrong;
