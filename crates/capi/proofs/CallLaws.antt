@@ -13,11 +13,12 @@ use Rattle.model.specs.declared.Name.{Name}
 use Rattle.model.specs.declared.Clock.{Clock}
 use Rattle.model.specs.Periods.{listed}
 use Rattle.model.specs.State.{newMeter}
-use Rattle.model.specs.Calls.{Lent, Call}
+use Rattle.model.specs.Calls.{Lent, Call, powerUp}
+use Rattle.line.specs.Left.{Wiped}
 use Rattle.meter.specs.declared.Meter.{Meter}
 use Rattle.meter.specs.declared.Changed.{Changed}
 use Rattle.meter.specs.View.{view}
-use Rattle.meter.specs.Promise.{Owned}
+use Rattle.meter.specs.Promise.{Owned, PoweredUp}
 use Rattle.protocol.specs.Outcomes.{keeping}
 use Rattle.p2.specs.declared.Received.{Received}
 use Rattle.p2.specs.Promise.{Answered}
@@ -29,7 +30,7 @@ use Rattle.image.specs.declared.Written.{Written}
 use Rattle.image.specs.Image.{imageSize, imageOf, meterOf, meterBy, statusOf, readImage, Writes}
 use Rattle.image.proofs.ImageLaws.{passed, read-by, done}
 use Rattle.capi.specs.Refusals.{ownRefusal, newRefusal, newSized, argumentRefusal, sized}
-use Rattle.capi.specs.Promises.{whole, Made, NewCalled, Owns, OwnerCalled, Ends, Receives, Silent, FrameCalled, FrameEnds}
+use Rattle.capi.specs.Promises.{whole, Made, NewCalled, Owns, OwnerCalled, PowerCalled, Ends, Receives, Silent, FrameCalled, FrameEnds}
 
 -- no refusal of the library's own: the image is whole, and the arguments are taken
 taken-argument : (good : Bool) → argumentRefusal good ≡ 0 → good ≡ true
@@ -85,6 +86,14 @@ written-image w long =
     let d = done w long in
     (d .1, w .back (d .0))
 
+-- what is read of a buffer: its status, and the meter in it
+module _ (e : List ℕ) {m : Meter} (r : readImage e ≡ whole m) where
+  pub read-status : statusOf e ≡ Whole
+  read-status = ap (λ (i : ImageRead). i .status) r
+
+  pub read-same : meterOf e ≡ m
+  read-same = ap (λ (t : Status). meterBy t e) (sym read-status) ∙ ap (λ (i : ImageRead). i .meter) r
+
 -- the library's own refusal, as the code works it out
 own-is : {good b : Bool} (s : List ℕ) {i : ImageRead} {n : ℕ} → b ≡ good → i ≡ readImage s → n ≡ ownRefusal (i .status) b → n ≡ ownRefusal (statusOf s) good
 own-is {b = b} s g u e = e ∙ ap (λ (x : ImageRead). ownRefusal (x .status) b) u ∙ ap (ownRefusal (statusOf s)) g
@@ -123,6 +132,23 @@ module _ {good b : Bool} {c : Call} {s : List ℕ} {i : ImageRead} {n : ℕ} (g 
         refused = λ h. absurd (h y);
         called = λ _. made (subst (λ (m : Meter). Owned c m r) (read-meter s (w .0) u) (o (w .1))) (w .0) d;
         kept = d .kept;
+      }
+
+-- Power-up.
+
+module _ {s : List ℕ} {i : ImageRead} {n : ℕ} (u : i ≡ readImage s) (e : n ≡ ownRefusal (i .status) true) where
+  pub power-refused : (n ≡ 0 → ⊥) → PowerCalled s s n
+  power-refused h = record { owner = owner-refused refl u e h; wiped = λ z. absurd (h z) }
+
+  pub power-called : {r : Changed} {f : List ℕ} {k : ℕ} → n ≡ 0 → PoweredUp (i .meter) r → Ends r s f k → PowerCalled s f k
+  unfolding made
+  power-called {r} {f} z p d =
+      let y : ownRefusal (statusOf s) true ≡ 0 = sym (own-is s refl u e) ∙ z in
+      let w = own-none (statusOf s) true y .0 in
+      let same : meterOf f ≡ r .meter = read-same f (made (subst (λ (m : Meter). Owned powerUp m r) (read-meter s w u) (p .owned)) w d .read) in
+      record {
+        owner = owner-called refl u e z (λ _. p .owned) d;
+        wiped = λ q c. subst (λ (m : Meter). Wiped c (m .line)) (sym same) (p .wiped (sym (d .number) ∙ q) c);
       }
 
 pub ends-refused : {r : Changed} {s : List ℕ} → (r .refusal ≡ 0 → ⊥) → Ends r s s (r .refusal)

@@ -8,23 +8,15 @@ use Rattle.model.specs.Calls.{Lent, Call, frame}
 use Rattle.model.specs.Demand3.{Handed}
 use Rattle.meter.specs.declared.Meter.{Meter}
 use Rattle.meter.specs.View.{view}
-use Rattle.image.specs.declared.ImageRead.{ImageRead}
 use Rattle.image.specs.declared.Status.{Status}
 use Rattle.image.specs.declared.Status.the-variants.{Whole}
-use Rattle.image.specs.Image.{meterOf, meterBy, statusOf, readImage}
+use Rattle.image.specs.Image.{meterOf, statusOf}
 use Rattle.p2.specs.Runs.{Ensured, Runs}
 use Rattle.p2.proofs.Runs.{runs-demand3}
 use Rattle.capi.specs.Refusals.{ownRefusal}
-use Rattle.capi.specs.Promises.{whole, OwnerCalled, FrameCalled}
+use Rattle.capi.specs.Promises.{OwnerCalled, FrameCalled}
+use Rattle.capi.proofs.CallLaws.{read-status, read-same}
 use Rattle.capi.specs.Runs.{handedBack, Library, receives, owns, LibraryRuns, none, more, refused, RefusedByArguments, LibraryDemand3}
-
--- what is read of a buffer: its status, and the meter in it
-module _ (e : List ℕ) {m : Meter} (r : readImage e ≡ whole m) where
-  read-status : statusOf e ≡ Whole
-  read-status = ap (λ (i : ImageRead). i .status) r
-
-  read-same : meterOf e ≡ m
-  read-same = ap (λ (t : Status). meterBy t e) (sym read-status) ∙ ap (λ (i : ImageRead). i .meter) r
 
 -- one call: the function behind it was called on the meter in the buffer, and the buffer holds a whole image again
 record Made (s e : List ℕ) (c : Call) (h : Handed Meter view) : Type 0 where

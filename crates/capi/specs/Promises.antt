@@ -9,7 +9,9 @@ use Prim.Native.Nat.{ℕ}
 use lib.ListN.{length}
 use Rattle.model.specs.Periods.{listed}
 use Rattle.model.specs.State.{newMeter}
-use Rattle.model.specs.Calls.{Lent, Call}
+use Rattle.model.specs.declared.Client.{Client}
+use Rattle.model.specs.Calls.{Lent, Call, powerUp}
+use Rattle.line.specs.Left.{Wiped}
 use Rattle.meter.specs.declared.Meter.{Meter}
 use Rattle.meter.specs.declared.Changed.{Changed}
 use Rattle.meter.specs.View.{view}
@@ -59,6 +61,11 @@ pub record OwnerCalled (good : Bool) (c : Call) (s e : List ℕ) (n : ℕ) : Typ
   pub refused : (ownRefusal (statusOf s) good ≡ 0 → ⊥) → n ≡ ownRefusal (statusOf s) good
   pub called : ownRefusal (statusOf s) good ≡ 0 → Owns c s e n
   pub kept : (n ≡ 0 → ⊥) → e ≡ s
+
+-- power-up, which leaves nothing of any association in the buffer
+pub record PowerCalled (s e : List ℕ) (n : ℕ) : Type 0 where
+  pub owner : OwnerCalled true powerUp s e n
+  pub wiped : n ≡ 0 → (c : Client) → Wiped c (meterOf e .line)
 
 -- the end of an owner's call, in a buffer of the right length: the meter handed back is written where the call is accepted
 pub record Ends (r : Changed) (s e : List ℕ) (n : ℕ) : Type 0 where

@@ -26,7 +26,7 @@ ghost use Rattle.image.specs.Lists.{listIn, wholeList};
 ghost use Rattle.image.specs.Image.{imageSize};
 ghost use Rattle.p2.specs.Promise.{lent};
 ghost use Rattle.capi.specs.Refusals.{isFlag, sized};
-ghost use Rattle.capi.specs.Promises.{Ends, FrameCalled, FrameEnds, NewCalled, OwnerCalled};
+ghost use Rattle.capi.specs.Promises.{Ends, FrameCalled, FrameEnds, NewCalled, OwnerCalled, PowerCalled};
 
 // How many bytes a state buffer has.
 #[no_mangle]
@@ -167,7 +167,7 @@ pub extern "C" fn birlimock_set_p5(state: &mut [u8], held: u32) -> u8
 // Power-up. Refusals 101 to 103 and 3.
 #[no_mangle]
 pub extern "C" fn birlimock_power_up(state: &mut [u8]) -> u8
-    ensures { λ r. ⌜ OwnerCalled true Call.powerUp (now (state .entry)) (now (state .exit)) r ⌝ }
+    ensures { λ r. ⌜ PowerCalled (now (state .entry)) (now (state .exit)) r ⌝ }
 {
     let read = image::read_image(state);
     let status = read.status;
