@@ -4,7 +4,7 @@
  * A meter is a state buffer of BIRLIMOCK_STATE_SIZE bytes that the caller owns, keeps and lends to each call; its
  * layout is in docs/IMAGE.md. The library allocates nothing, keeps nothing between calls, prints nothing, and calls
  * nothing but memcpy and memset. A buffer is a pointer and a length. Every length is answered, and a wrong one by a
- * number: no call traps, given the stack that docs/SPEED.md names.
+ * number: no call traps, given stack enough (docs/SPEED.md has what was seen).
  *
  * What the caller owes, since nothing in C can test it: each pointer is not null, also where its length is 0, and
  * points to as many bytes as its length says (so does `sent`, to a size_t); what a call writes (state, reply, sent)

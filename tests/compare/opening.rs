@@ -55,10 +55,15 @@ fn initiate(random: &mut Random, key: &[u8]) -> Vec<u8> {
 /// The AARQ of these fields, one time in five with a departure.
 fn assembled(random: &mut Random, mut fields: Vec<Vec<u8>>) -> Vec<u8> {
     let (one, other) = (random.below(fields.len()), random.below(fields.len()));
-    match random.below(40) {
+    match random.below(44) {
         0 => drop(fields.remove(one)),
         1 => fields.insert(one, fields[one].clone()),
         2 => fields.swap(one, other),
+        8..=11 => {
+            let field = fields[one].clone();
+            let content = &field[1 + shortest_length(field.len() - 2).len()..];
+            fields[one] = part(field[0], &changed(random, content));
+        }
         3 | 4 => fields[one] = changed(random, &fields[one].clone()),
         5 => fields.insert(one, random.pick(&[part(0x80, &[0x07, 0x80]), part(0xBD, &[]), part(0xA2, &[0x04, 0x00])])),
         6 => fields[one] = in_longer_form(&fields[one]),

@@ -37,6 +37,9 @@ impl Player<'_> {
         let mut parts = self.parts();
         if self.random.percent(8) {
             parts.damage(self.random);
+            if self.random.percent(40) {
+                parts.damage(self.random);
+            }
         }
         let frame = parts.frame();
         match self.random.percent(2) {

@@ -89,7 +89,10 @@ pub fn wrong_clock(random: &mut Random) -> Clock {
 
 pub fn wrong_period(random: &mut Random) -> u32 {
     let any = random.number32();
-    random.pick(&[0, 1, 15, 29, 31, 45, 61, 210, 270, 540, 1350, 3599, 7200, u32::MAX, 1 << 31, 65536 + 60, any | 1])
+    random.pick(&[
+        0, 1, 10, 15, 20, 29, 31, 40, 45, 50, 61, 80, 100, 200, 210, 270, 400, 540, 1350, 3599, 7200, u32::MAX, 1 << 31, 65536 + 60,
+        any | 1,
+    ])
 }
 
 /// A counter, often near one of the ends.
