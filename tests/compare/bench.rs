@@ -60,7 +60,9 @@ impl Bench {
 
     /// What a frame call or power-up left of an association that it ended, or of challenges that were answered in it.
     fn traces(&self, call: &Call, before: &State) -> Option<&'static str> {
-        let (Call::Receive { .. } | Call::PowerUp, Some(before), Some(after)) = (call, before.meter(), self.state.meter()) else {
+        let (Call::Receive { .. } | Call::PowerUp, Some(before), Some(after)) =
+            (call, before.meter(), self.state.meter())
+        else {
             return None;
         };
         let all_zero = |range: std::ops::Range<usize>| self.image[range].iter().all(|&byte| byte == 0);
