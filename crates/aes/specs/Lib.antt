@@ -4,3 +4,4 @@ pub mod Sbox
 pub mod SboxRule
 pub mod Cipher
 pub mod KeyExpansion
+pub mod Held

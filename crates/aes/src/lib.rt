@@ -7,6 +7,15 @@ ghost use Rattle.aes.specs.Field.{xtime, xorWord};
 ghost use Rattle.aes.specs.Sbox.{sbox, sboxTable, doubledTable};
 ghost use Rattle.aes.specs.Cipher.{subWord, subBytes, shiftRows, mixColumn, mixColumns, addRoundKey, roundOf, finalRound, cipher};
 ghost use Rattle.aes.specs.KeyExpansion.{nextKey, keyExpansion};
+ghost use Rattle.aes.specs.Held.{byColumns, columnsOf, heldSchedule, scheduleOf};
+
+// A round key, by its columns: what a struct can hold of a key schedule.
+pub struct RoundKey {
+    pub a: [u8; 4],
+    pub b: [u8; 4],
+    pub c: [u8; 4],
+    pub d: [u8; 4],
+}
 
 // The key schedule of a key.
 pub fn expand_key(key: [u8; 16]) -> [[[u8; 4]; 4]; 11]
@@ -26,6 +35,32 @@ pub fn expand_key(key: [u8; 16]) -> [[[u8; 4]; 4]; 11]
         w[i] = n;
     }
     w
+}
+
+// The key schedule of a key, to be held in a struct.
+pub fn round_keys(key: [u8; 16]) -> [RoundKey; 11]
+    ensures { λ r. ⌜ scheduleOf r ≡ keyExpansion key ⌝ }
+{
+    held_schedule(expand_key(key))
+}
+
+// The key schedule that is held.
+pub fn schedule(k: [RoundKey; 11]) -> [[[u8; 4]; 4]; 11]
+    ensures { λ r. ⌜ r ≡ scheduleOf k ⌝ }
+{
+    [
+        columns_of(k[0]),
+        columns_of(k[1]),
+        columns_of(k[2]),
+        columns_of(k[3]),
+        columns_of(k[4]),
+        columns_of(k[5]),
+        columns_of(k[6]),
+        columns_of(k[7]),
+        columns_of(k[8]),
+        columns_of(k[9]),
+        columns_of(k[10]),
+    ]
 }
 
 // The cipher of one block, under a key schedule.
@@ -71,6 +106,45 @@ pub fn bytes_of(s: [[u8; 4]; 4]) -> [u8; 16]
         s[3][2],
         s[3][3],
     ]
+}
+
+fn held_schedule(w: [[[u8; 4]; 4]; 11]) -> [RoundKey; 11]
+    ensures { λ r. ⌜ r ≡ heldSchedule w ⌝ }
+{
+    [
+        by_columns(w[0]),
+        by_columns(w[1]),
+        by_columns(w[2]),
+        by_columns(w[3]),
+        by_columns(w[4]),
+        by_columns(w[5]),
+        by_columns(w[6]),
+        by_columns(w[7]),
+        by_columns(w[8]),
+        by_columns(w[9]),
+        by_columns(w[10]),
+    ]
+}
+
+fn by_columns(s: [[u8; 4]; 4]) -> RoundKey
+    ensures { λ r. ⌜ r ≡ byColumns s ⌝ }
+{
+    RoundKey {
+        a: s[0],
+        b: s[1],
+        c: s[2],
+        d: s[3],
+    }
+}
+
+fn columns_of(k: RoundKey) -> [[u8; 4]; 4]
+    ensures { λ r. ⌜ r ≡ columnsOf k ⌝ }
+{
+    let a = k.a;
+    let b = k.b;
+    let c = k.c;
+    let d = k.d;
+    [a, b, c, d]
 }
 
 fn run_rounds(
