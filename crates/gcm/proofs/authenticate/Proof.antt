@@ -27,12 +27,11 @@ returns c =
     let a = b .before in
     let y = a .before in
     let z = y .before in
-    let k = z .before in
-    let s = k .before .before .before .args in
+    let s = z .before .before .before .args in
     let n : a .bit-length .result * 2 ^ 64 + b .bit-length2 .result ≡ lengths (s .aad .now) (s .c .now) =
     ap₂ (λ (p q : ℕ). p * 2 ^ 64 + q) (a .bit-length .ensures) (b .bit-length2 .ensures) in
     joined
-    (num (k .hash-key .result))
+    (num (s .h))
     _
     (num (y .hash-from2 .result))
     (lengths (s .aad .now) (s .c .now))
@@ -42,14 +41,12 @@ returns c =
     (z .hash-from .ensures)
     (y .hash-from2 .ensures)
     (c .multiply .ensures
-    ∙ ap (λ (t : ℕ). product t (num (k .hash-key .result))) (x .xor .ensures ∙ ap (bitXor (num (y .hash-from2 .result))) n))
-    ∙ ap (λ (h : ℕ). ghash h (blocks (s .aad .now) ++ (blocks (s .c .now) ++ (lengths (s .aad .now) (s .c .now) ∷ [])))) (k .hash-key .ensures)
+    ∙ ap (λ (t : ℕ). product t (num (s .h))) (x .xor .ensures ∙ ap (bitXor (num (y .hash-from2 .result))) n))
 
 pub authenticate-spec : {M : Type 1} → statement M
 authenticate-spec =
     tie.close
     (tie.spec
-    (λ c κs. search needs)
     (λ c κs. search needs)
     (λ c κs. search needs)
     (λ c κs. search needs)
