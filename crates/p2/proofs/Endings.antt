@@ -26,8 +26,7 @@ use Rattle.wire.proofs.WroteLaws.{past, there}
 use Rattle.hdlc.specs.declared.Head.{Head}
 use Rattle.hdlc.specs.Replies.{apduFrame, Sent}
 use Rattle.hdlc.proofs.ReplyLaws.{length-apdu}
-use Rattle.envelope.specs.declared.Keys.{Keys}
-use Rattle.envelope.specs.Layout.{sealedEnvelope}
+use Rattle.envelope.specs.Layout.{Keys, sealedEnvelope}
 use Rattle.envelope.proofs.CloseLaws.{envelope-size, length-envelope}
 use Rattle.answers.specs.declared.Answered.{Answered as BodyAnswer}
 use Rattle.answers.specs.Promise.{Turns}

@@ -10,7 +10,6 @@ use Rattle.model.specs.declared.Client.the-variants.{Han}
 use Rattle.model.specs.declared.Counters.{Counters}
 use Rattle.model.specs.State.{none}
 use Rattle.counters.specs.Window.{inWindow}
-use Rattle.envelope.specs.declared.Keys.{Keys}
 use Rattle.envelope.specs.declared.Opening.{Opening}
 use Rattle.envelope.specs.declared.Opening.the-variants.{Fails, Opens}
 use Rattle.envelope.specs.declared.Admission.{Admission}

@@ -13,7 +13,7 @@ use Rattle.model.specs.Soundness.{isNone}
 use Rattle.cosem.specs.declared.Tag.{Tag}
 use Rattle.cosem.specs.declared.Tag.the-variants.{Aarq, Rlrq, GetRequest, SetRequest, ActionRequest, GloActionRequest, DedGetRequest, DedSetRequest, DedActionRequest, Unknown}
 use Rattle.acse.specs.Clients.{ciphers}
-use Rattle.envelope.specs.declared.Keys.{Keys}
+use Rattle.envelope.specs.Layout.{Keys, keysFrom}
 use Rattle.protocol.specs.declared.Secrets.{Secrets}
 
 -- A client's part of the line.
@@ -69,15 +69,15 @@ meterChallenge (associated a k) = replicate 8 0
 abbrev pub selectiveIn : Client → Line → Bool
 selectiveIn c l = within selectiveAccess (agreedIn (peer c l .association))
 
--- The keys of H, the one client that ciphers; zeros for a key that has no part.
+-- The keys of H, the one client that ciphers.
 
 -- "GUK for 21, 28, CB, CF"
 abbrev pub lentKeys : Secrets → Keys
-lentKeys a = record { guk = a .guk; ak = a .ak; dedicated = replicate 16 0 }
+lentKeys a = keysFrom (a .guk) (a .ak)
 
 -- "the dedicated key for D0, D3 (requests) and D4, D7 (answers)"
 abbrev pub dedicatedKeys : (ak : List ℕ) → Line → Keys
-dedicatedKeys ak l = record { guk = replicate 16 0; ak = ak; dedicated = keyIn (l .han .peer .association) }
+dedicatedKeys ak l = keysFrom (keyIn (l .han .peer .association)) ak
 
 -- What is permitted.
 
