@@ -9,10 +9,10 @@ pub use challenge::is_right_proof;
 pub use challenge::put_proof;
 pub use close::close_envelope;
 pub use close::head_size;
+use gcm::ReadyKey;
 pub use material::ready_keys;
 pub use open::admit_envelope;
 pub use open::open_envelope;
-use gcm::ReadyKey;
 
 // The longest APDU that a frame brings: a room for any plain text has this size.
 pub const LONGEST_APDU: usize = 765;

@@ -8,6 +8,7 @@ use cosem::Exception;
 use cosem::Reading;
 use envelope::Admission;
 use envelope::LONGEST_APDU;
+use envelope::ReadyKeys;
 use hdlc::Head;
 use line::LineState;
 use meter::Meter;
@@ -25,9 +26,11 @@ ghost use Rattle.model.specs.Soundness.{sound};
 ghost use Rattle.model.specs.State.{none};
 ghost use Rattle.model.specs.declared.Client.the-variants.{Han};
 ghost use Rattle.cosem.specs.Requests.{readGet, requested};
+ghost use Rattle.envelope.specs.Layout.{keysOf};
 ghost use Rattle.line.specs.View.{lineOf};
 ghost use Rattle.meter.specs.View.{view};
-ghost use Rattle.protocol.specs.Clients.{associates, selectiveIn};
+ghost use Rattle.protocol.specs.declared.Secrets.{Secrets as Lent};
+ghost use Rattle.protocol.specs.Clients.{associates, dedicatedKeys, selectiveIn};
 ghost use Rattle.protocol.specs.Rulings.{asks, nothing, outsideWindow, says};
 ghost use Rattle.protocol.specs.Decide.{accepted, advanced, asked, askedInside, readInside, requestEnclosed, wrap};
 ghost use Rattle.p2.specs.Promise.{Follows};
@@ -102,7 +105,7 @@ pub fn ask_enclosed(
         Admission::Unopened => kept(6, meter),
         Admission::OutsideWindow => drop_association(meter),
         Admission::Admitted { counter, size } => {
-            ask_inside(meter, secrets, head, tag, counter, &text[0..size], out)
+            ask_inside(meter, keys, head, tag, counter, &text[0..size], out)
         }
     }
 }
@@ -125,10 +128,10 @@ pub fn accept_counter(line: LineState, counter: u32) -> LineState
     association::with_counters(line, pair)
 }
 
-// An opened request of H.
+// An opened request of H, under the keys that opened it.
 fn ask_inside(
     meter: Meter,
-    secrets: Secrets,
+    keys: ReadyKeys,
     head: Head,
     tag: u8,
     counter: u32,
@@ -136,13 +139,12 @@ fn ask_inside(
     out: &mut [u8],
 ) -> Received
     requires { ⌜ (sound (view meter) ≡ true) × (0xC0 < tag) × (tag < 0xFC) × (replyRoom longestSent ≤ length (now out)) ⌝ }
-    ensures { λ r. ⌜ Follows (askedInside (lineOf (meter .line)) secrets head tag counter (now (text .entry)) (readInside tag (now (text .entry)))) meter (now (out .entry)) (now (out .exit)) r ⌝ }
+    ensures { λ r. ⌜ ((a : Lent) → keysOf keys ≡ dedicatedKeys (a .ak) (lineOf (meter .line)) → Follows (askedInside (lineOf (meter .line)) a head tag counter (now (text .entry)) (readInside tag (now (text .entry)))) meter (now (out .entry)) (now (out .exit)) r) ⌝ }
 {
     let reading = read_inside(tag, text);
-    let ak = secrets.ak;
     match reading {
         Reading::Asks(request) => {
-            answer_enclosed(meter, ak, head, tag, counter, text, request, out)
+            answer_enclosed(meter, keys, head, tag, counter, text, request, out)
         }
         Reading::Malformed => {
             let next = accept_counter(meter.line, counter);
@@ -165,7 +167,7 @@ fn read_inside(tag: u8, text: &[u8]) -> Reading
 // The body's answer to an opened request of H, in an envelope with the meter's next counter.
 fn answer_enclosed(
     meter: Meter,
-    ak: [u8; 16],
+    keys: ReadyKeys,
     head: Head,
     tag: u8,
     counter: u32,
@@ -174,7 +176,7 @@ fn answer_enclosed(
     out: &mut [u8],
 ) -> Received
     requires { ⌜ (sound (view meter) ≡ true) × (0xC0 < tag) × (tag < 0xFC) × (replyRoom longestSent ≤ length (now out)) ⌝ }
-    ensures { λ r. ⌜ Follows (asks (requested Han (selectiveIn Han (lineOf (meter .line))) (now (text .entry)) request) (wrap ak head tag) (advanced (accepted counter (lineOf (meter .line))))) meter (now (out .entry)) (now (out .exit)) r ⌝ }
+    ensures { λ r. ⌜ ((ak : List ℕ) → keysOf keys ≡ dedicatedKeys ak (lineOf (meter .line)) → Follows (asks (requested Han (selectiveIn Han (lineOf (meter .line))) (now (text .entry)) request) (wrap ak head tag) (advanced (accepted counter (lineOf (meter .line))))) meter (now (out .entry)) (now (out .exit)) r) ⌝ }
 {
     let line = meter.line;
     let body = meter.body;
@@ -186,7 +188,6 @@ fn answer_enclosed(
     let selective = association::is_selective(line, Client::Han);
     let answer = answers::answer(body, Client::Han, selective, text, request, out, TEXT_AT);
     let size = answer.next - TEXT_AT;
-    let keys = association::dedicated_keys(ak, next);
     let title = line.title;
     let count = replies::send_enclosed(out, head, keys, title, tag + 4, number, size);
     let after = answer.body;

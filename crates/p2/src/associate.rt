@@ -5,6 +5,7 @@ use acse::Aarq;
 use acse::InitiateRequest;
 use envelope::LONGEST_APDU;
 use envelope::Opening;
+use envelope::ReadyKeys;
 use hdlc::Head;
 use meter::Meter;
 use model::Client;
@@ -17,6 +18,7 @@ ghost use Rattle.model.specs.Limits.{longestSent, replyRoom};
 ghost use Rattle.model.specs.declared.Client.the-variants.{Han};
 ghost use Rattle.acse.specs.Aarq.{readAarq};
 ghost use Rattle.acse.specs.Initiate.{readRequest};
+ghost use Rattle.envelope.specs.Layout.{keysOf};
 ghost use Rattle.envelope.specs.Opening.{opened};
 ghost use Rattle.line.specs.View.{lineOf};
 ghost use Rattle.protocol.specs.Clients.{lentKeys, peer};
@@ -109,6 +111,7 @@ fn open_request(
     initiate(
         meter,
         secrets,
+        keys,
         head,
         challenge,
         &text[0..size],
@@ -117,10 +120,11 @@ fn open_request(
     )
 }
 
-// H's opened initiate request.
+// H's opened initiate request, under the keys that opened it.
 fn initiate(
     meter: Meter,
     secrets: Secrets,
+    keys: ReadyKeys,
     head: Head,
     challenge: [u8; 8],
     text: &[u8],
@@ -128,7 +132,7 @@ fn initiate(
     out: &mut [u8],
 ) -> Received
     requires { ⌜ replyRoom longestSent ≤ length (now out) ⌝ }
-    ensures { λ r. ⌜ Follows (initiated (lineOf (meter .line)) secrets head challenge (now (text .entry)) counter (readRequest (now (text .entry)))) meter (now (out .entry)) (now (out .exit)) r ⌝ }
+    ensures { λ r. ⌜ (keysOf keys ≡ lentKeys secrets → Follows (initiated (lineOf (meter .line)) secrets head challenge (now (text .entry)) counter (readRequest (now (text .entry)))) meter (now (out .entry)) (now (out .exit)) r) ⌝ }
 {
     let request = acse::read_request(text);
     match request {
@@ -138,6 +142,7 @@ fn initiate(
             accept_ciphered(
                 meter,
                 secrets,
+                keys,
                 head,
                 challenge,
                 dedicated,
@@ -154,6 +159,7 @@ fn initiate(
 fn accept_ciphered(
     meter: Meter,
     secrets: Secrets,
+    keys: ReadyKeys,
     head: Head,
     challenge: [u8; 8],
     key: [u8; 16],
@@ -162,7 +168,7 @@ fn accept_ciphered(
     out: &mut [u8],
 ) -> Received
     requires { ⌜ replyRoom longestSent ≤ length (now out) ⌝ }
-    ensures { λ r. ⌜ Follows (acceptedCiphered (lineOf (meter .line)) secrets head challenge key proposed counter) meter (now (out .entry)) (now (out .exit)) r ⌝ }
+    ensures { λ r. ⌜ (keysOf keys ≡ lentKeys secrets → Follows (acceptedCiphered (lineOf (meter .line)) secrets head challenge key proposed counter) meter (now (out .entry)) (now (out .exit)) r) ⌝ }
 {
     let line = meter.line;
     let title = line.title;
@@ -170,7 +176,6 @@ fn accept_ciphered(
     let pair = counters::accept(han.counters, counter);
     let next = counters::take(pair);
     let agreed = acse::agreed(Client::Han, proposed);
-    let keys = association::lent_keys(secrets);
     let ours = secrets.challenge;
     let after = association::pending(line, agreed, key, challenge, ours, next.counters);
     let number = next.number;

@@ -11,6 +11,7 @@ use cosem::Reading;
 use cosem::Wanted;
 use envelope::Admission;
 use envelope::LONGEST_APDU;
+use envelope::ReadyKeys;
 use hdlc::Head;
 use line::LineState;
 use meter::Meter;
@@ -22,7 +23,10 @@ ghost use Prim.Native.Nat.{_≤_};
 ghost use lib.ListN.{length};
 ghost use Rattle.model.specs.Limits.{longestSent, replyRoom};
 ghost use Rattle.cosem.specs.Requests.{readAction};
+ghost use Rattle.envelope.specs.Layout.{keysOf};
 ghost use Rattle.line.specs.View.{lineOf};
+ghost use Rattle.protocol.specs.declared.Secrets.{Secrets as Lent};
+ghost use Rattle.protocol.specs.Clients.{lentKeys};
 ghost use Rattle.protocol.specs.Decide.{answeredChallenge, challenged, challengeEnclosed, disproved, isChallenge, onFirstMethod, proofIn, proved, provesItself};
 ghost use Rattle.p2.specs.Promise.{Follows};
 
@@ -47,7 +51,7 @@ pub fn hear_challenge(
         Admission::Unopened => kept(6, meter),
         Admission::OutsideWindow => drop_association(meter),
         Admission::Admitted { counter, size } => {
-            answer_challenge(meter, secrets, head, counter, &text[0..size], out)
+            answer_challenge(meter, keys, head, counter, &text[0..size], out)
         }
     }
 }
@@ -55,18 +59,18 @@ pub fn hear_challenge(
 // An opened APDU while H is pending.
 fn answer_challenge(
     meter: Meter,
-    secrets: Secrets,
+    keys: ReadyKeys,
     head: Head,
     counter: u32,
     text: &[u8],
     out: &mut [u8],
 ) -> Received
     requires { ⌜ replyRoom longestSent ≤ length (now out) ⌝ }
-    ensures { λ r. ⌜ Follows (answeredChallenge (lineOf (meter .line)) secrets head counter (now (text .entry)) (readAction (now (text .entry)))) meter (now (out .entry)) (now (out .exit)) r ⌝ }
+    ensures { λ r. ⌜ ((a : Lent) → keysOf keys ≡ lentKeys a → Follows (answeredChallenge (lineOf (meter .line)) a head counter (now (text .entry)) (readAction (now (text .entry)))) meter (now (out .entry)) (now (out .exit)) r) ⌝ }
 {
     let reading = cosem::read_action(text);
     match reading {
-        Reading::Asks(request) => judge(meter, secrets, head, counter, text, request, out),
+        Reading::Asks(request) => judge(meter, keys, head, counter, text, request, out),
         Reading::Malformed => {
             let next = accept_counter(meter.line, counter);
             except(meter, next, head, Exception::ServiceUnknown, out)
@@ -77,7 +81,7 @@ fn answer_challenge(
 // An ACTION while H is pending.
 fn judge(
     meter: Meter,
-    secrets: Secrets,
+    keys: ReadyKeys,
     head: Head,
     counter: u32,
     text: &[u8],
@@ -85,7 +89,7 @@ fn judge(
     out: &mut [u8],
 ) -> Received
     requires { ⌜ replyRoom longestSent ≤ length (now out) ⌝ }
-    ensures { λ r. ⌜ Follows (challenged (lineOf (meter .line)) secrets head counter (now (text .entry)) request) meter (now (out .entry)) (now (out .exit)) r ⌝ }
+    ensures { λ r. ⌜ ((a : Lent) → keysOf keys ≡ lentKeys a → Follows (challenged (lineOf (meter .line)) a head counter (now (text .entry)) request) meter (now (out .entry)) (now (out .exit)) r) ⌝ }
 {
     if !is_challenge(text, request) {
         let next = accept_counter(meter.line, counter);
@@ -93,10 +97,10 @@ fn judge(
     }
     let invoke = request.invoke;
     let line = meter.line;
-    if proves_itself(line, secrets, counter, text, request) {
-        return prove(meter, secrets, head, invoke, counter, out);
+    if proves_itself(line, keys, counter, text, request) {
+        return prove(meter, keys, head, invoke, counter, out);
     }
-    disprove(meter, secrets, head, invoke, counter, out)
+    disprove(meter, keys, head, invoke, counter, out)
 }
 
 // Whether a request is the ACTION that answers the challenge.
@@ -136,14 +140,13 @@ fn is_first_method(wanted: Wanted) -> bool
 // Whether the parameter is H's right proof.
 fn proves_itself(
     line: LineState,
-    secrets: Secrets,
+    keys: ReadyKeys,
     counter: u32,
     text: &[u8],
     request: Asked,
 ) -> bool
-    ensures { λ r. ⌜ r ≡ provesItself (lineOf line) secrets counter (now (text .entry)) request ⌝ }
+    ensures { λ r. ⌜ ((a : Lent) → keysOf keys ≡ lentKeys a → r ≡ provesItself (lineOf line) a counter (now (text .entry)) request) ⌝ }
 {
-    let keys = association::lent_keys(secrets);
     let title = association::title_of(line, Client::Han);
     let challenge = association::meter_challenge(line);
     let han = line.han;
@@ -171,14 +174,14 @@ fn proof_in(text: &[u8], wanted: Wanted) -> &[u8]
 // A right proof: the meter's goes out, and H is associated. The proof takes a counter before its envelope.
 fn prove(
     meter: Meter,
-    secrets: Secrets,
+    keys: ReadyKeys,
     head: Head,
     invoke: u8,
     counter: u32,
     out: &mut [u8],
 ) -> Received
     requires { ⌜ replyRoom longestSent ≤ length (now out) ⌝ }
-    ensures { λ r. ⌜ Follows (proved (lineOf (meter .line)) secrets head invoke counter) meter (now (out .entry)) (now (out .exit)) r ⌝ }
+    ensures { λ r. ⌜ ((a : Lent) → keysOf keys ≡ lentKeys a → Follows (proved (lineOf (meter .line)) a head invoke counter) meter (now (out .entry)) (now (out .exit)) r) ⌝ }
 {
     let line = meter.line;
     let title = line.title;
@@ -186,7 +189,6 @@ fn prove(
     let pair = counters::accept(han.counters, counter);
     let first = counters::take(pair);
     let second = counters::take(first.counters);
-    let keys = association::lent_keys(secrets);
     let challenge = association::client_challenge(line);
     let next = association::associated_ciphered(line, second.counters);
     let count = replies::send_proof(
@@ -205,21 +207,20 @@ fn prove(
 // A wrong proof: code 250 goes out, and H's association ends.
 fn disprove(
     meter: Meter,
-    secrets: Secrets,
+    keys: ReadyKeys,
     head: Head,
     invoke: u8,
     counter: u32,
     out: &mut [u8],
 ) -> Received
     requires { ⌜ replyRoom longestSent ≤ length (now out) ⌝ }
-    ensures { λ r. ⌜ Follows (disproved (lineOf (meter .line)) secrets head invoke counter) meter (now (out .entry)) (now (out .exit)) r ⌝ }
+    ensures { λ r. ⌜ ((a : Lent) → keysOf keys ≡ lentKeys a → Follows (disproved (lineOf (meter .line)) a head invoke counter) meter (now (out .entry)) (now (out .exit)) r) ⌝ }
 {
     let line = meter.line;
     let title = line.title;
     let han = line.han;
     let pair = counters::accept(han.counters, counter);
     let first = counters::take(pair);
-    let keys = association::lent_keys(secrets);
     let advanced = association::with_counters(line, first.counters);
     let next = association::ended(advanced, Client::Han);
     let number = first.number;

@@ -8,8 +8,19 @@ use Rattle.p2.proofs.challenge.proves_itself.Tie as tie
 
 returns : tie.Need-returns
 unfolding provesItself lineOf
-returns c =
-    c .is-right-proof .ensures ∙ rw (c .before .before .before .before .before .lent-keys .ensures, c .before .before .before .before .title-of .ensures, c .before .before .before .meter-challenge .ensures, c .before .proof-in .ensures) refl
+returns c a e =
+    let at-proof-in = c .before in
+    let at-meter-challenge = at-proof-in .before .before in
+    let at-title-of = at-meter-challenge .before in
+    c .is-right-proof .ensures
+    ∙ rw (e, at-title-of .title-of .ensures, at-meter-challenge .meter-challenge .ensures, at-proof-in .proof-in .ensures) refl
 
 pub proves-itself-spec : {M : Type 1} → statement M
-proves-itself-spec = tie.close (tie.spec (λ c κs. search needs) (λ c κs. search needs) (λ c κs. search needs) (λ c κs. search needs) (λ c κs. search needs) returns)
+proves-itself-spec =
+    tie.close
+    (tie.spec
+    (λ c κs. search needs)
+    (λ c κs. search needs)
+    (λ c κs. search needs)
+    (λ c κs. search needs)
+    returns)
