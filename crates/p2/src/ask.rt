@@ -35,17 +35,10 @@ ghost use Rattle.protocol.specs.Rulings.{asks, nothing, outsideWindow, says};
 ghost use Rattle.protocol.specs.Decide.{accepted, advanced, asked, askedInside, readInside, requestEnclosed, wrap};
 ghost use Rattle.p2.specs.Promise.{Follows};
 
-// A plain request.
-pub fn ask_plain(
-    meter: Meter,
-    secrets: Secrets,
-    client: Client,
-    head: Head,
-    apdu: &[u8],
-    out: &mut [u8],
-) -> Received
+// A plain request. No key has a part in it.
+pub fn ask_plain(meter: Meter, client: Client, head: Head, apdu: &[u8], out: &mut [u8]) -> Received
     requires { ⌜ (sound (view meter) ≡ true) × (replyRoom longestSent ≤ length (now out)) ⌝ }
-    ensures { λ r. ⌜ Follows (asked (lineOf (meter .line)) secrets client head (now (apdu .entry)) (readGet (now (apdu .entry)))) meter (now (out .entry)) (now (out .exit)) r ⌝ }
+    ensures { λ r. ⌜ ((a : Lent) → Follows (asked (lineOf (meter .line)) a client head (now (apdu .entry)) (readGet (now (apdu .entry)))) meter (now (out .entry)) (now (out .exit)) r) ⌝ }
 {
     let line = meter.line;
     let reading = cosem::read_get(apdu);

@@ -87,7 +87,7 @@ fn by_tag(
     match tag {
         Tag::Aarq => associate(meter, secrets, client, head, apdu, out),
         Tag::Rlrq => release(meter, client, head, apdu, out),
-        Tag::GetRequest => ask_plain(meter, secrets, client, head, apdu, out),
+        Tag::GetRequest => ask_plain(meter, client, head, apdu, out),
         Tag::GloActionRequest => hear_challenge(meter, secrets, head, apdu, out),
         Tag::DedGetRequest => ask_enclosed(meter, secrets, head, 0xD0, apdu, out),
         Tag::DedActionRequest => ask_enclosed(meter, secrets, head, 0xD3, apdu, out),

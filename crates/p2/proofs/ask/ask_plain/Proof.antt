@@ -6,12 +6,28 @@ use Rattle.p2.proofs.ask.ask_plain.Statement.{statement}
 use Rattle.p2.proofs.ask.ask_plain.Tie as tie
 
 returns : tie.Need-returns
-returns c =
-    rw (sym (c .before .before .before .before .before .before .before .read-get .ensures) ∙ c .before .before .before .before .before .reading .given .1) (c .before .before .answer-plain .ensures (c .before .before .before .before .before .before .before .before .before .before .before .args .secrets .ak))
+returns c a =
+    let at-answer = c .before .before in
+    let at-reading = at-answer .before .before .before in
+    rw (sym (at-reading .before .before .read-get .ensures) ∙ at-reading .reading .given .1) (at-answer .answer-plain .ensures (a .ak))
 
 returns-2 : tie.Need-returns-2
-returns-2 c =
-    rw (sym (c .before .before .before .before .before .before .read-get .ensures) ∙ c .before .before .before .before .enum-told .given .1) (c .before .before .except .ensures malformedApdu refl (λ d. refl))
+returns-2 c a =
+    let at-except = c .before .before in
+    let at-told = at-except .before .before in
+    rw (sym (at-told .before .before .read-get .ensures) ∙ at-told .enum-told .given .1)
+    (at-except .except .ensures malformedApdu refl (λ d. refl))
 
 pub ask-plain-spec : {M : Type 1} → statement M
-ask-plain-spec = tie.close (tie.spec (λ c κs. search needs) (λ c. search needs) (λ c κs. search needs) (λ c. search needs) (λ c κs. search needs) (λ c. search needs) returns (λ c. search needs) returns-2)
+ask-plain-spec =
+    tie.close
+    (tie.spec
+    (λ c κs. search needs)
+    (λ c. search needs)
+    (λ c κs. search needs)
+    (λ c. search needs)
+    (λ c κs. search needs)
+    (λ c. search needs)
+    returns
+    (λ c. search needs)
+    returns-2)

@@ -15,7 +15,7 @@ returns-2 c =
 
 returns-3 : tie.Need-returns-3
 returns-3 c =
-    rw (c .before .before .before .before .enum-told3 .given .1) (c .before .before .ask-plain .ensures)
+    rw (c .before .before .before .before .enum-told3 .given .1) (c .before .before .ask-plain .ensures (c .before .before .before .before .before .before .before .before .before .args .secrets))
 
 returns-4 : tie.Need-returns-4
 returns-4 c =
