@@ -170,13 +170,11 @@ fn tag_under(w: [[[u8; 4]; 4]; 11], h: Block, nonce: [u8; 12], aad: &[u8], c: &[
 fn authenticate(h: Block, aad: &[u8], c: &[u8]) -> Block
     ensures { λ r. ⌜ num r ≡ authenticated (num h) (now (aad .entry)) (now (c .entry)) ⌝ }
 {
-    let x = ghash::hash_from(h, Block { hi: 0, lo: 0 }, aad);
-    let y = ghash::hash_from(h, x, c);
     let n = Block {
         hi: bit_length(aad),
         lo: bit_length(c),
     };
-    ghash::multiply(ghash::xor(y, n), h)
+    ghash::hash_parts(h, aad, c, n)
 }
 
 // The hash subkey.
