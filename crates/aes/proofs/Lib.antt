@@ -1,3 +1,4 @@
 pub mod Four
 pub mod Example
 pub mod SboxLaws
+pub mod ColumnLaws

@@ -3,4 +3,5 @@ pub mod Field
 pub mod Sbox
 pub mod SboxRule
 pub mod Cipher
+pub mod Columns
 pub mod KeyExpansion
