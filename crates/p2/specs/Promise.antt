@@ -13,6 +13,7 @@ use Rattle.model.specs.Calls.{Lent, frame, decided}
 use Rattle.model.specs.Demand3.{Handed, Gave, Promised}
 use Rattle.line.specs.declared.LineState.{LineState}
 use Rattle.line.specs.View.{lineOf}
+use Rattle.body.specs.declared.BodyState.{BodyState}
 use Rattle.meter.specs.declared.Meter.{Meter}
 use Rattle.meter.specs.View.{view}
 use Rattle.protocol.specs.declared.Secrets.{Secrets}
@@ -22,6 +23,7 @@ use Rattle.protocol.specs.Decide.{p2}
 use Rattle.protocol.specs.Outcomes.{keeping}
 use Rattle.line.specs.Left.{Wiped}
 use Rattle.p2.specs.declared.Received.{Received}
+use Rattle.p2.specs.declared.Told.{Told}
 
 -- what is lent to a call: of the reply room its length
 abbrev pub lent : (room : ℕ) → (guk ak challenge received : List ℕ) → Lent
@@ -34,6 +36,12 @@ secretsIn g k c =
 
 abbrev pub received : (refusal count : ℕ) → Meter → Received
 received n k m = record { refusal = n; count = k; meter = m }
+
+abbrev pub told : (refusal count : ℕ) → LineState → Told
+told n k l = record { refusal = n; count = k; line = l }
+
+abbrev pub meterOf : LineState → BodyState → Meter
+meterOf l b = record { line = l; body = b }
 
 -- what is handed back, with what the reply room held before and holds after
 abbrev pub handed : Received → (before after : List ℕ) → Handed Meter view
@@ -64,3 +72,8 @@ pub record Follows (x : Ruling) (m : Meter) (l o : List ℕ) (r : Received) : Ty
   pub gave : Gave Meter view (decided p2 (decision x) (view m)) (handed r l o)
   pub kept : listed (r .refusal) keeping ≡ true → r .meter ≡ m
   pub wiped : LeavesNothing m (r .meter)
+
+-- the same of a function that has the line alone: whatever body stands beside it, it is as it was
+abbrev pub Tells : Ruling → LineState → (before after : List ℕ) → Told → Type 0
+Tells x line l o r =
+    (b : BodyState) → Follows x (meterOf line b) l o (received (r .refusal) (r .count) (meterOf (r .line) b))

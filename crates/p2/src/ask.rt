@@ -1,7 +1,8 @@
 // Requests for the body: V's plain GET, and H's GET and ACTION in their envelopes.
 use crate::Received;
-use crate::ending::answered;
+use crate::Told;
 use crate::ending::except;
+use crate::ending::joined;
 use crate::ending::kept;
 use cosem::Asked;
 use cosem::Exception;
@@ -33,7 +34,7 @@ ghost use Rattle.protocol.specs.declared.Secrets.{Secrets as Lent};
 ghost use Rattle.protocol.specs.Clients.{associates, dedicatedKeys, selectiveIn};
 ghost use Rattle.protocol.specs.Rulings.{asks, nothing, outsideWindow, says};
 ghost use Rattle.protocol.specs.Decide.{accepted, advanced, asked, askedInside, readInside, requestEnclosed, wrap};
-ghost use Rattle.p2.specs.Promise.{Follows};
+ghost use Rattle.p2.specs.Promise.{Follows, Tells};
 
 // A plain request. No key has a part in it.
 pub fn ask_plain(meter: Meter, client: Client, head: Head, apdu: &[u8], out: &mut [u8]) -> Received
@@ -44,7 +45,7 @@ pub fn ask_plain(meter: Meter, client: Client, head: Head, apdu: &[u8], out: &mu
     let reading = cosem::read_get(apdu);
     match reading {
         Reading::Asks(request) => answer_plain(meter, client, head, apdu, request, out),
-        Reading::Malformed => except(meter, line, head, Exception::ServiceUnknown, out),
+        Reading::Malformed => { joined(except(line, head, Exception::ServiceUnknown, out), meter) }
     }
 }
 
@@ -95,8 +96,8 @@ pub fn ask_enclosed(
     let mut text = [0u8; LONGEST_APDU];
     let admission = envelope::admit_envelope(keys, title, tag, han.counters, apdu, &mut text);
     match admission {
-        Admission::Unopened => kept(6, meter),
-        Admission::OutsideWindow => drop_association(meter),
+        Admission::Unopened => joined(kept(6, line), meter),
+        Admission::OutsideWindow => joined(drop_association(line), meter),
         Admission::Admitted { counter, size } => {
             ask_inside(meter, keys, head, tag, counter, &text[0..size], out)
         }
@@ -104,12 +105,15 @@ pub fn ask_enclosed(
 }
 
 // Refusal 7: nothing goes out, and H's association is dropped.
-pub fn drop_association(meter: Meter) -> Received
-    ensures { λ r. ⌜ ((l : List ℕ) → Follows (says outsideWindow nothing (associates Han none (lineOf (meter .line)))) meter l l r) ⌝ }
+pub fn drop_association(line: LineState) -> Told
+    ensures { λ r. ⌜ ((l : List ℕ) → Tells (says outsideWindow nothing (associates Han none (lineOf line))) line l l r) ⌝ }
 {
-    let line = meter.line;
     let next = association::ended(line, Client::Han);
-    answered(7, 0, next, meter)
+    Told {
+        refusal: 7,
+        count: 0,
+        line: next,
+    }
 }
 
 // The line with a counter of H's as the last accepted.
@@ -141,7 +145,7 @@ fn ask_inside(
         }
         Reading::Malformed => {
             let next = accept_counter(meter.line, counter);
-            except(meter, next, head, Exception::ServiceUnknown, out)
+            joined(except(next, head, Exception::ServiceUnknown, out), meter)
         }
     }
 }

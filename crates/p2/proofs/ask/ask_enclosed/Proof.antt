@@ -17,12 +17,13 @@ part-ask-inside-end c =
 returns : tie.Need-returns
 unfolding requestEnclosed
 returns c =
-    let at-enum-told = c .before in
+    let at-kept = c .before in
+    let at-enum-told = at-kept .before in
     let at-admit-envelope = at-enum-told .before .before in
     let at-title-of = at-admit-envelope .before .before in
     let at-dedicated-keys = at-title-of .before in
     let s = at-dedicated-keys .before .before .before .before .before .before in
-    rw (c .kept .ensures)
+    rw (c .joined .ensures, at-kept .kept .ensures)
     (follows
     (admits-unopened (s .args .tag) (s .args .apdu .now) (at-dedicated-keys .dedicated-keys .ensures) (at-title-of .title-of .ensures) (s .args .meter .line) _ (at-admit-envelope .admit-envelope .ensures) (at-enum-told .enum-told .given .1))
     (says-kept envelopeUnopened nothing (s .args .meter) refl (nothing-sent _)))
@@ -30,14 +31,16 @@ returns c =
 returns-2 : tie.Need-returns-2
 unfolding requestEnclosed
 returns-2 c =
-    let at-enum-told2 = c .before in
+    let at-drop-association = c .before in
+    let at-enum-told2 = at-drop-association .before in
     let at-admit-envelope = at-enum-told2 .before .before in
     let at-title-of = at-admit-envelope .before .before in
     let at-dedicated-keys = at-title-of .before in
     let s = at-dedicated-keys .before .before .before .before .before .before in
-    follows
+    rw (c .joined2 .ensures)
+    (follows
     (admits-outside (s .args .tag) (s .args .apdu .now) (at-dedicated-keys .dedicated-keys .ensures) (at-title-of .title-of .ensures) (s .args .meter .line) _ (at-admit-envelope .admit-envelope .ensures) (at-enum-told2 .enum-told2 .given .1))
-    (c .drop-association .ensures _)
+    (at-drop-association .drop-association .ensures _ (s .args .meter .body)))
 
 returns-3 : tie.Need-returns-3
 unfolding requestEnclosed
@@ -61,7 +64,9 @@ ask-enclosed-spec =
     (λ c κs. search needs)
     (λ c. search needs)
     (λ c κs. search needs)
+    (λ c κs. search needs)
     (λ c. search needs)
+    (λ c κs. search needs)
     (λ c κs. search needs)
     (λ c. search needs)
     (λ c. search needs)

@@ -15,12 +15,14 @@ returns c a e =
 
 returns-2 : tie.Need-returns-2
 returns-2 c a e =
-    let at-except = c .before .before in
+    let at-except = c .before .before .before in
     let at-accept-counter = at-except .before .before in
     let at-enum-told = at-accept-counter .before in
     let at-read-inside = at-enum-told .before .before in
-    rw (sym (at-read-inside .read-inside .ensures) ∙ at-enum-told .enum-told .given .1, sym (at-accept-counter .accept-counter .ensures))
-    (at-except .except .ensures malformedApdu refl (λ d. accepted-same _ _ (at-accept-counter .accept-counter .ensures) d))
+    let s = at-read-inside .before .before .before in
+    let next = at-accept-counter .accept-counter .ensures in
+    rw (c .joined .ensures, sym (at-read-inside .read-inside .ensures) ∙ at-enum-told .enum-told .given .1, sym next)
+    (at-except .except .ensures (s .args .meter .line) malformedApdu refl (λ d. accepted-same _ _ next d) (s .args .meter .body))
 
 pub ask-inside-spec : {M : Type 1} → statement M
 ask-inside-spec =
@@ -30,6 +32,7 @@ ask-inside-spec =
     (λ c. search needs)
     (λ c κs. search needs)
     (λ c. search needs)
+    (λ c κs. search needs)
     (λ c κs. search needs)
     (λ c κs. search needs)
     (λ c. search needs)

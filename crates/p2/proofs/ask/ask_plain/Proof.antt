@@ -7,16 +7,19 @@ use Rattle.p2.proofs.ask.ask_plain.Tie as tie
 
 returns : tie.Need-returns
 returns c a =
-    let at-answer = c .before .before in
-    let at-reading = at-answer .before .before .before in
-    rw (sym (at-reading .before .before .read-get .ensures) ∙ at-reading .reading .given .1) (at-answer .answer-plain .ensures (a .ak))
+    let at-answer-plain = c .before .before in
+    let at-reading = at-answer-plain .before .before .before in
+    let at-read-get = at-reading .before .before in
+    rw (sym (at-read-get .read-get .ensures) ∙ at-reading .reading .given .1) (at-answer-plain .answer-plain .ensures (a .ak))
 
 returns-2 : tie.Need-returns-2
 returns-2 c a =
-    let at-except = c .before .before in
-    let at-told = at-except .before .before in
-    rw (sym (at-told .before .before .read-get .ensures) ∙ at-told .enum-told .given .1)
-    (at-except .except .ensures malformedApdu refl (λ d. refl))
+    let at-except = c .before .before .before in
+    let at-enum-told = at-except .before .before in
+    let at-read-get = at-enum-told .before .before in
+    let s = at-read-get .before .before .before .before in
+    rw (c .joined .ensures, sym (at-read-get .read-get .ensures) ∙ at-enum-told .enum-told .given .1)
+    (at-except .except .ensures (s .args .meter .line) malformedApdu refl (λ d. refl) (s .args .meter .body))
 
 pub ask-plain-spec : {M : Type 1} → statement M
 ask-plain-spec =
@@ -26,6 +29,7 @@ ask-plain-spec =
     (λ c. search needs)
     (λ c κs. search needs)
     (λ c. search needs)
+    (λ c κs. search needs)
     (λ c κs. search needs)
     (λ c. search needs)
     returns

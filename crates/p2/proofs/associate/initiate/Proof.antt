@@ -9,7 +9,7 @@ use Rattle.p2.proofs.associate.initiate.Statement.{statement}
 use Rattle.p2.proofs.associate.initiate.Tie as tie
 
 returns : tie.Need-returns
-returns c e =
+returns c e b =
     let at-accept-ciphered = c .before .before in
     let at-three-at = at-accept-ciphered .before .before in
     let at-sixteen-at = at-three-at .before in
@@ -20,14 +20,14 @@ returns c e =
     let read = sym (at-read-request .read-request .ensures) in
     let k = keyed-told t (read ∙ at-request .request .given .1) in
     rw (read, at-request .request .given .1, sym (at-sixteen-at .sixteen-at .ensures ∙ fill-here t _ (replicate 16 0) (omega (arith, k .keyPlace, k .long))), sym (at-three-at .three-at .ensures ∙ fill-here t _ (replicate 3 0) (omega (arith, k .servicesPlace, k .long))))
-    (at-accept-ciphered .accept-ciphered .ensures e)
+    (at-accept-ciphered .accept-ciphered .ensures e b)
 
 returns-2 : tie.Need-returns-2
-returns-2 c e =
+returns-2 c e b =
     let at-reject-aarq = c .before .before in
     let at-enum-told = at-reject-aarq .before .before in
     let at-read-request = at-enum-told .before .before in
-    rw (sym (at-read-request .read-request .ensures), at-enum-told .enum-told .given .1) (at-reject-aarq .reject-aarq .ensures)
+    rw (sym (at-read-request .read-request .ensures), at-enum-told .enum-told .given .1) (at-reject-aarq .reject-aarq .ensures b)
 
 pub initiate-spec : {M : Type 1} → statement M
 initiate-spec =

@@ -6,15 +6,15 @@ use Rattle.p2.proofs.associate.open_request.Statement.{statement}
 use Rattle.p2.proofs.associate.open_request.Tie as tie
 
 returns : tie.Need-returns
-returns c =
+returns c b =
     let at-reject-aarq = c .before .before in
     let at-enum-told = at-reject-aarq .before .before in
     let at-open-envelope = at-enum-told .before .before in
     let at-title-of = at-open-envelope .before .before in
-    let at-lent-keys = at-title-of .before .before in
+    let at-lent-keys = at-title-of .before in
     let s = at-lent-keys .before .before .before in
     rw (envelope-fails 0x21 (s .args .envelope .now) (at-lent-keys .lent-keys .ensures) (at-title-of .title-of .ensures) (at-open-envelope .open-envelope .ensures) (at-enum-told .enum-told .given .1))
-    (at-reject-aarq .reject-aarq .ensures)
+    (at-reject-aarq .reject-aarq .ensures b)
 
 part-initiate-end : tie.Need-part-initiate-end
 part-initiate-end c =
@@ -23,15 +23,15 @@ part-initiate-end c =
     opened-text (at-open-envelope .open-envelope .ensures) (at-counter .counter .given .1) .1
 
 returns-2 : tie.Need-returns-2
-returns-2 c =
+returns-2 c b =
     let at-initiate = c .before .before in
     let at-counter = at-initiate .before .before .before .before .before in
     let at-open-envelope = at-counter .before .before in
     let at-title-of = at-open-envelope .before .before in
-    let at-lent-keys = at-title-of .before .before in
+    let at-lent-keys = at-title-of .before in
     let s = at-lent-keys .before .before .before in
     rw (envelope-opens 0x21 (s .args .envelope .now) (at-lent-keys .lent-keys .ensures) (at-title-of .title-of .ensures) (at-open-envelope .open-envelope .ensures) (at-counter .counter .given .1))
-    (at-initiate .initiate .ensures (at-lent-keys .lent-keys .ensures))
+    (at-initiate .initiate .ensures (at-lent-keys .lent-keys .ensures) b)
 
 pub open-request-spec : {M : Type 1} → statement M
 open-request-spec =

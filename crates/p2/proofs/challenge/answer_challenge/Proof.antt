@@ -7,20 +7,22 @@ use Rattle.p2.proofs.challenge.answer_challenge.Statement.{statement}
 use Rattle.p2.proofs.challenge.answer_challenge.Tie as tie
 
 returns : tie.Need-returns
-returns c a e =
+returns c a e b =
     let at-judge = c .before .before in
     let at-reading = at-judge .before .before .before in
     let at-read-action = at-reading .before .before in
-    rw (sym (at-read-action .read-action .ensures) ∙ at-reading .reading .given .1) (at-judge .judge .ensures a e)
+    rw (sym (at-read-action .read-action .ensures) ∙ at-reading .reading .given .1) (at-judge .judge .ensures a e b)
 
 returns-2 : tie.Need-returns-2
-returns-2 c a e =
+returns-2 c a e b =
     let at-except = c .before .before in
     let at-accept-counter = at-except .before .before in
     let at-enum-told = at-accept-counter .before in
     let at-read-action = at-enum-told .before .before in
-    rw (sym (at-read-action .read-action .ensures) ∙ at-enum-told .enum-told .given .1, sym (at-accept-counter .accept-counter .ensures))
-    (at-except .except .ensures malformedApdu refl (λ d. accepted-same _ _ (at-accept-counter .accept-counter .ensures) d))
+    let s = at-read-action .before .before .before in
+    let next = at-accept-counter .accept-counter .ensures in
+    rw (sym (at-read-action .read-action .ensures) ∙ at-enum-told .enum-told .given .1, sym next)
+    (at-except .except .ensures (s .args .line) malformedApdu refl (λ d. accepted-same _ _ next d) b)
 
 pub answer-challenge-spec : {M : Type 1} → statement M
 answer-challenge-spec =

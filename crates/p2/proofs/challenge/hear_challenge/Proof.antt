@@ -5,6 +5,7 @@ use Rattle.protocol.specs.Decide.{challengeEnclosed}
 use Rattle.p2.proofs.Endings.{follows, nothing-sent, says-kept}
 use Rattle.p2.proofs.Envelopes.{admits-unopened, admits-outside, admits-inside, admitted-size}
 use borrow.Author.Needs.{needs}
+use Rattle.p2.specs.Promise.{meterOf}
 use Rattle.p2.proofs.challenge.hear_challenge.Statement.{statement}
 use Rattle.p2.proofs.challenge.hear_challenge.Tie as tie
 
@@ -16,41 +17,41 @@ part-answer-challenge-end c =
 
 returns : tie.Need-returns
 unfolding challengeEnclosed
-returns c =
+returns c b =
     let at-enum-told = c .before in
     let at-admit-envelope = at-enum-told .before .before in
     let at-title-of = at-admit-envelope .before .before in
     let at-lent-keys = at-title-of .before in
-    let s = at-lent-keys .before .before .before .before .before in
+    let s = at-lent-keys .before .before .before .before in
     rw (c .kept .ensures)
     (follows
-    (admits-unopened 0xCB (s .args .apdu .now) (at-lent-keys .lent-keys .ensures) (at-title-of .title-of .ensures) (s .args .meter .line) _ (at-admit-envelope .admit-envelope .ensures) (at-enum-told .enum-told .given .1))
-    (says-kept envelopeUnopened nothing (s .args .meter) refl (nothing-sent _)))
+    (admits-unopened 0xCB (s .args .apdu .now) (at-lent-keys .lent-keys .ensures) (at-title-of .title-of .ensures) (s .args .line) _ (at-admit-envelope .admit-envelope .ensures) (at-enum-told .enum-told .given .1))
+    (says-kept envelopeUnopened nothing (meterOf (s .args .line) b) refl (nothing-sent _)))
 
 returns-2 : tie.Need-returns-2
 unfolding challengeEnclosed
-returns-2 c =
+returns-2 c b =
     let at-enum-told2 = c .before in
     let at-admit-envelope = at-enum-told2 .before .before in
     let at-title-of = at-admit-envelope .before .before in
     let at-lent-keys = at-title-of .before in
-    let s = at-lent-keys .before .before .before .before .before in
+    let s = at-lent-keys .before .before .before .before in
     follows
-    (admits-outside 0xCB (s .args .apdu .now) (at-lent-keys .lent-keys .ensures) (at-title-of .title-of .ensures) (s .args .meter .line) _ (at-admit-envelope .admit-envelope .ensures) (at-enum-told2 .enum-told2 .given .1))
-    (c .drop-association .ensures _)
+    (admits-outside 0xCB (s .args .apdu .now) (at-lent-keys .lent-keys .ensures) (at-title-of .title-of .ensures) (s .args .line) _ (at-admit-envelope .admit-envelope .ensures) (at-enum-told2 .enum-told2 .given .1))
+    (c .drop-association .ensures _ b)
 
 returns-3 : tie.Need-returns-3
 unfolding challengeEnclosed
-returns-3 c =
+returns-3 c b =
     let at-answer-challenge = c .before .before in
     let at-admission = at-answer-challenge .before .before .before .before .before in
     let at-admit-envelope = at-admission .before .before in
     let at-title-of = at-admit-envelope .before .before in
     let at-lent-keys = at-title-of .before in
-    let s = at-lent-keys .before .before .before .before .before in
+    let s = at-lent-keys .before .before .before .before in
     follows
-    (admits-inside 0xCB (s .args .apdu .now) (at-lent-keys .lent-keys .ensures) (at-title-of .title-of .ensures) (s .args .meter .line) _ (at-admit-envelope .admit-envelope .ensures) (at-admission .admission .given .1))
-    (at-answer-challenge .answer-challenge .ensures (s .args .secrets) (at-lent-keys .lent-keys .ensures))
+    (admits-inside 0xCB (s .args .apdu .now) (at-lent-keys .lent-keys .ensures) (at-title-of .title-of .ensures) (s .args .line) _ (at-admit-envelope .admit-envelope .ensures) (at-admission .admission .given .1))
+    (at-answer-challenge .answer-challenge .ensures (s .args .secrets) (at-lent-keys .lent-keys .ensures) b)
 
 pub hear-challenge-spec : {M : Type 1} → statement M
 hear-challenge-spec =

@@ -10,35 +10,37 @@ use Rattle.p2.proofs.challenge.judge.Tie as tie
 
 returns : tie.Need-returns
 unfolding challenged
-returns c a e =
+returns c a e b =
     let at-except = c .before .before in
     let at-accept-counter = at-except .before .before in
     let at-if1 = at-accept-counter .before in
     let at-is-challenge = at-if1 .before in
-    rw (sym (at-is-challenge .is-challenge .ensures) ∙ not-true _ (at-if1 .if1 .taken), sym (at-accept-counter .accept-counter .ensures))
-    (at-except .except .ensures notTheChallenge refl (λ d. accepted-same _ _ (at-accept-counter .accept-counter .ensures) d))
+    let s = at-is-challenge .before .before .before in
+    let next = at-accept-counter .accept-counter .ensures in
+    rw (sym (at-is-challenge .is-challenge .ensures) ∙ not-true _ (at-if1 .if1 .taken), sym next)
+    (at-except .except .ensures (s .args .line) notTheChallenge refl (λ d. accepted-same _ _ next d) b)
 
 returns-2 : tie.Need-returns-2
 unfolding challenged
-returns-2 c a e =
+returns-2 c a e b =
     let at-prove = c .before .before in
     let at-if2 = at-prove .before .before in
     let at-proves-itself = at-if2 .before in
-    let at-if1 = at-proves-itself .before .before in
+    let at-if1 = at-proves-itself .before in
     let at-is-challenge = at-if1 .before in
     rw (sym (at-is-challenge .is-challenge .ensures) ∙ not-false _ (at-if1 .if1 .left), sym (at-proves-itself .proves-itself .ensures a e) ∙ at-if2 .if2 .taken)
-    (at-prove .prove .ensures a e)
+    (at-prove .prove .ensures a e b)
 
 returns-3 : tie.Need-returns-3
 unfolding challenged
-returns-3 c a e =
+returns-3 c a e b =
     let at-disprove = c .before .before in
     let at-if2 = at-disprove .before .before in
     let at-proves-itself = at-if2 .before in
-    let at-if1 = at-proves-itself .before .before in
+    let at-if1 = at-proves-itself .before in
     let at-is-challenge = at-if1 .before in
     rw (sym (at-is-challenge .is-challenge .ensures) ∙ not-false _ (at-if1 .if1 .left), sym (at-proves-itself .proves-itself .ensures a e) ∙ at-if2 .if2 .left)
-    (at-disprove .disprove .ensures a e)
+    (at-disprove .disprove .ensures a e b)
 
 pub judge-spec : {M : Type 1} → statement M
 judge-spec =
