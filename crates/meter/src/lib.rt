@@ -1,6 +1,7 @@
 // The meter: its state, the test of soundness for every state that can be handed in, and the owner's calls. Each call takes
 // the meter whole and hands the changed meter back beside the number of its refusal, or 0; it refuses an unsound meter by 3,
-// then by its own number, and hands a refused meter back as it was. And the one meter that holds what a meter holds.
+// then by its own number, and hands a refused meter back as it was. Beside the calls: the meter with zeros wherever it holds
+// nothing.
 use body::BodyState;
 use line::LineState;
 use model::Clock;
