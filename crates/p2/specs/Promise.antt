@@ -11,6 +11,8 @@ use Rattle.model.specs.State.{Line}
 use Rattle.model.specs.Soundness.{isNone}
 use Rattle.model.specs.Calls.{Lent, frame, decided}
 use Rattle.model.specs.Demand3.{Handed, Gave, Promised}
+use Rattle.cosem.specs.declared.Tag.{Tag}
+use Rattle.cosem.specs.declared.Tag.the-variants.{Aarq, Rlrq, GetRequest, SetRequest, ActionRequest, GloActionRequest, DedGetRequest, DedSetRequest, DedActionRequest, Unknown}
 use Rattle.line.specs.declared.LineState.{LineState}
 use Rattle.line.specs.View.{lineOf}
 use Rattle.body.specs.declared.BodyState.{BodyState}
@@ -42,6 +44,19 @@ told n k l = record { refusal = n; count = k; line = l }
 
 abbrev pub meterOf : LineState → BodyState → Meter
 meterOf l b = record { line = l; body = b }
+
+-- the tag byte of a request in its envelope: D0 for GET, else D3
+abbrev pub requestByte : Tag → ℕ
+requestByte DedGetRequest = 0xD0
+requestByte DedActionRequest = 0xD3
+requestByte Aarq = 0xD3
+requestByte Rlrq = 0xD3
+requestByte GetRequest = 0xD3
+requestByte SetRequest = 0xD3
+requestByte ActionRequest = 0xD3
+requestByte GloActionRequest = 0xD3
+requestByte DedSetRequest = 0xD3
+requestByte Unknown = 0xD3
 
 -- what is handed back, with what the reply room held before and holds after
 abbrev pub handed : Received → (before after : List ℕ) → Handed Meter view

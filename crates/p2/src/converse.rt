@@ -25,7 +25,7 @@ ghost use Rattle.cosem.specs.Tags.{tagIn};
 ghost use Rattle.line.specs.View.{lineOf};
 ghost use Rattle.meter.specs.View.{view};
 ghost use Rattle.protocol.specs.Decide.{byTag, carried, conversed, released};
-ghost use Rattle.p2.specs.Promise.{Follows, Tells};
+ghost use Rattle.p2.specs.Promise.{Follows, requestByte, Tells};
 
 // An APDU.
 pub fn carry(
@@ -91,12 +91,31 @@ fn by_tag(
         Tag::Rlrq => joined(release(line, client, head, apdu, out), meter),
         Tag::GetRequest => ask_plain(meter, client, head, apdu, out),
         Tag::GloActionRequest => joined(hear_challenge(line, secrets, head, apdu, out), meter),
-        Tag::DedGetRequest => ask_enclosed(meter, secrets, head, 0xD0, apdu, out),
-        Tag::DedActionRequest => ask_enclosed(meter, secrets, head, 0xD3, apdu, out),
+        Tag::DedGetRequest | Tag::DedActionRequest => {
+            ask_enclosed(meter, secrets, head, request_byte(tag), apdu, out)
+        }
         Tag::SetRequest => joined(except(line, head, Exception::ServiceNotAllowed, out), meter),
         Tag::ActionRequest => joined(except(line, head, Exception::ServiceNotAllowed, out), meter),
         Tag::DedSetRequest => joined(except(line, head, Exception::ServiceNotAllowed, out), meter),
         Tag::Unknown => joined(except(line, head, Exception::ServiceUnknown, out), meter),
+    }
+}
+
+// The tag byte of a request in its envelope: D0 for GET, else D3.
+fn request_byte(tag: Tag) -> u8
+    ensures { λ r. ⌜ r ≡ requestByte tag ⌝ }
+{
+    match tag {
+        Tag::DedGetRequest => 0xD0,
+        Tag::DedActionRequest => 0xD3,
+        Tag::Aarq => 0xD3,
+        Tag::Rlrq => 0xD3,
+        Tag::GetRequest => 0xD3,
+        Tag::SetRequest => 0xD3,
+        Tag::ActionRequest => 0xD3,
+        Tag::GloActionRequest => 0xD3,
+        Tag::DedSetRequest => 0xD3,
+        Tag::Unknown => 0xD3,
     }
 }
 
