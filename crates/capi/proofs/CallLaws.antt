@@ -1,7 +1,7 @@
 -- The ends of a call of the library: refused by the library itself, or made on the meter in the buffer.
 use mathlib.Core.Path.{_≡_, refl, sym, subst, ap, _∙_}
 use mathlib.Core.Bool.{Bool, true, false, _&&_, and-eq-true-iff}
-use mathlib.Core.List.{List, _∷_}
+use mathlib.Core.List.{List}
 use Prim.Native.Nat.{ℕ, zero, suc, _≤_, _<_}
 use native.Mathlib.Omega.{arith}
 use lib.Dec.{eqb, ltb}
@@ -36,7 +36,7 @@ use Rattle.image.specs.declared.Written.{Written}
 use Rattle.image.specs.Image.{imageSize, imageOf, meterOf, meterIn, meterBy, statusOf, readImage, Writes}
 use Rattle.image.proofs.ImageLaws.{passed, in-meter, done}
 use Rattle.capi.specs.Refusals.{ownRefusal, newRefusal, newSized, argumentRefusal, sized}
-use Rattle.capi.specs.Promises.{whole, imageFor, after, handedBack, Stores, Made, NewCalled, Owns, OwnerCalled, Ends, Receives, Silent, FrameCalled, FrameEnds}
+use Rattle.capi.specs.Promises.{whole, imageFor, after, Stores, NewCalled, Owns, OwnerCalled, Ends, Receives, FrameCalled, FrameEnds}
 
 -- no refusal of the library's own: the image is whole, and the arguments are taken
 taken-argument : (good : Bool) → argumentRefusal good ≡ 0 → good ≡ true

@@ -1,10 +1,10 @@
 -- Demand 3 of the static library: a run of its calls is a run of the model's promises, on the meters in the buffer.
 use mathlib.Core.Path.{_≡_, refl, sym, subst, ap, ap₂, _∙_}
 use mathlib.Core.Bool.{true, false}
-use mathlib.Core.List.{List, [], _∷_}
+use mathlib.Core.List.{List}
 use Prim.Native.Nat.{ℕ}
 use native.Mathlib.Omega.{arith}
-use Rattle.model.specs.Calls.{Lent, Call, frame}
+use Rattle.model.specs.Calls.{Call}
 use Rattle.model.specs.Demand3.{Handed, Promised, Run}
 use Rattle.meter.specs.declared.Meter.{Meter}
 use Rattle.meter.specs.View.{view}
@@ -14,7 +14,6 @@ use Rattle.image.specs.declared.Status.{Status}
 use Rattle.image.specs.declared.Status.the-variants.{Whole}
 use Rattle.image.specs.Image.{meterOf, statusOf}
 use Rattle.capi.specs.Refusals.{ownRefusal}
-use Rattle.capi.specs.Promises.{OwnerCalled, FrameCalled}
 use Rattle.capi.specs.Runs.{Library, receives, owns, LibraryRuns, none, more, refused, RefusedByArguments, LibraryDemand3}
 
 -- one call: the model's promise of the meter in the buffer, and the buffer holds a whole image again

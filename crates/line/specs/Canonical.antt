@@ -48,39 +48,40 @@ phaseOf none = Idle
 phaseOf (pending a k c s) = Pending
 phaseOf (associated a k) = Associated
 
-abbrev pub agreedOf : Association → List ℕ
-agreedOf none = replicate 3 0
-agreedOf (pending a k c s) = a
-agreedOf (associated a k) = a
+-- What an association holds; zeros where it holds no such bytes.
 
-abbrev pub keyOf : Association → List ℕ
-keyOf none = replicate 16 0
-keyOf (pending a k c s) = k
-keyOf (associated a k) = k
+abbrev pub agreedIn : Association → List ℕ
+agreedIn none = replicate 3 0
+agreedIn (pending a k c s) = a
+agreedIn (associated a k) = a
 
--- the client's challenge
-abbrev pub clientOf : Association → List ℕ
-clientOf none = replicate 8 0
-clientOf (pending a k c s) = c
-clientOf (associated a k) = replicate 8 0
+abbrev pub keyIn : Association → List ℕ
+keyIn none = replicate 16 0
+keyIn (pending a k c s) = k
+keyIn (associated a k) = k
 
--- the meter's challenge
-abbrev pub meterOf : Association → List ℕ
-meterOf none = replicate 8 0
-meterOf (pending a k c s) = s
-meterOf (associated a k) = replicate 8 0
+-- the client's challenge, and the meter's
+abbrev pub clientChallenge : Association → List ℕ
+clientChallenge none = replicate 8 0
+clientChallenge (pending a k c s) = c
+clientChallenge (associated a k) = replicate 8 0
+
+abbrev pub meterChallenge : Association → List ℕ
+meterChallenge none = replicate 8 0
+meterChallenge (pending a k c s) = s
+meterChallenge (associated a k) = replicate 8 0
 
 -- a client's key and challenges have no place here
 unfoldable pub partyWith : Peer → Party
-partyWith p = record { title = p .title; up = p .up; phase = phaseOf (p .association); agreed = agreedOf (p .association) }
+partyWith p = record { title = p .title; up = p .up; phase = phaseOf (p .association); agreed = agreedIn (p .association) }
 
 unfoldable pub cipherPartyWith : CipheringPeer → CipherParty
 cipherPartyWith p =
     record {
       party = partyWith (p .peer);
-      key = keyOf (p .peer .association);
-      client = clientOf (p .peer .association);
-      meter = meterOf (p .peer .association);
+      key = keyIn (p .peer .association);
+      client = clientChallenge (p .peer .association);
+      meter = meterChallenge (p .peer .association);
       counters = p .counters;
     }
 

@@ -1,5 +1,5 @@
 -- `p2::receive` meets its contract: refusals 1, 2 and 3, then the protocol.
-use mathlib.Core.Path.{refl, sym, ap, _∙_}
+use mathlib.Core.Path.{refl, sym, _∙_}
 use native.Mathlib.Omega.{arith}
 use lib.ListN.{replicate}
 use borrow.Author.Tests.{not-true, not-false}
