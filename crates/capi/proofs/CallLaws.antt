@@ -36,7 +36,7 @@ use Rattle.image.specs.declared.Written.{Written}
 use Rattle.image.specs.Image.{imageSize, imageOf, meterOf, meterIn, meterBy, statusOf, readImage, Writes}
 use Rattle.image.proofs.ImageLaws.{passed, in-meter, done}
 use Rattle.capi.specs.Refusals.{ownRefusal, newRefusal, newSized, argumentRefusal, sized}
-use Rattle.capi.specs.Promises.{whole, imageFor, after, Stores, NewCalled, Owns, OwnerCalled, Ends, Receives, FrameCalled, FrameEnds}
+use Rattle.capi.specs.Promises.{imageFor, after, Stores, NewCalled, Owns, OwnerCalled, Ends, Receives, FrameCalled, FrameEnds}
 
 -- no refusal of the library's own: the image is whole, and the arguments are taken
 taken-argument : (good : Bool) → argumentRefusal good ≡ 0 → good ≡ true
@@ -79,6 +79,10 @@ keeping-is n z s =
 true-false : true ≡ false → ⊥
 true-false e = absurd (let z : _≡_ {A = ℕ} 0 1 = cc in omega arith)
 
+-- the image of this very meter is read
+abbrev whole : Meter → ImageRead
+whole m = record { status = Whole; meter = m }
+
 -- a whole image has its length, and the meter in it is read
 read-meter : (s : List ℕ) {m : Meter} → statusOf s ≡ Whole → m ≡ meterIn s → m ≡ meterOf s
 read-meter s w e = e ∙ in-meter s (passed s w .long)
@@ -95,10 +99,6 @@ stored {m} {r} {e = e} k w long y =
       status = status;
       holds = ap view meter ∙ k .same;
     }
-
--- the library's own refusal, as the code works it out
-own-is : {good b : Bool} (s : List ℕ) {t : Status} {n : ℕ} → b ≡ good → t ≡ statusOf s → n ≡ ownRefusal t b → n ≡ ownRefusal (statusOf s) good
-own-is {b = b} s g u e = e ∙ ap (λ (x : Status). ownRefusal x b) u ∙ ap (ownRefusal (statusOf s)) g
 
 -- Owner's calls.
 
@@ -141,15 +141,18 @@ made {c} {s} {e} {n} {r} o w d =
     go zero q = let t = there q in (t .holds ∙ given .meter, t .status)
     go (suc k) q = left (λ h. omega arith)
 
-module _ {good b : Bool} {c : Call} {s : List ℕ} {t : Status} {n : ℕ} (g : b ≡ good) (u : t ≡ statusOf s) (e : n ≡ ownRefusal t b) where
+own : {good b : Bool} (s : List ℕ) {n : ℕ} → b ≡ good → n ≡ ownRefusal (statusOf s) b → n ≡ ownRefusal (statusOf s) good
+own s g e = e ∙ ap (ownRefusal (statusOf s)) g
+
+module _ {good b : Bool} {c : Call} {s : List ℕ} {n : ℕ} (g : b ≡ good) (e : n ≡ ownRefusal (statusOf s) b) where
   pub owner-refused : (n ≡ 0 → ⊥) → OwnerCalled good c s s n
   owner-refused h =
-      let q : n ≡ ownRefusal (statusOf s) good = own-is s g u e in
+      let q : n ≡ ownRefusal (statusOf s) good = own s g e in
       record { refused = λ _. q; called = λ z. absurd (h (q ∙ z)); kept = λ _. refl }
 
   pub owner-called : {m : Meter} {r : Changed} {f : List ℕ} {k : ℕ} → n ≡ 0 → m ≡ meterIn s → (good ≡ true → Owned c m r) → Ends r s f k → OwnerCalled good c s f k
   owner-called {r = r} z i o d =
-      let y : ownRefusal (statusOf s) good ≡ 0 = sym (own-is s g u e) ∙ z in
+      let y : ownRefusal (statusOf s) good ≡ 0 = sym (own s g e) ∙ z in
       let w = own-none (statusOf s) good y in
       record {
         refused = λ h. absurd (h y);
@@ -200,19 +203,18 @@ heard {a} {s} {e} {l} {o} {n} {r} v w d =
         (ap (λ (x : List ℕ). view (meterOf x)) k ∙ ap view (sym same) ∙ given .meter, ap statusOf k ∙ w)
     go false q = let t = there q in (t .holds ∙ given .meter, t .status)
 
-module _ {a : Lent} {s l : List ℕ} {t : Status} {n : ℕ} (u : t ≡ statusOf s) (e : n ≡ ownRefusal t true) where
+module _ {a : Lent} {s l : List ℕ} {n : ℕ} (e : n ≡ ownRefusal (statusOf s) true) where
   pub frame-refused : (n ≡ 0 → ⊥) → FrameCalled a s s l l 0 n
   frame-refused h =
-      let q : n ≡ ownRefusal (statusOf s) true = own-is s refl u e in
       record {
-        refused = λ _. (q, record { state = refl; count = refl; room = refl });
-        called = λ z. absurd (h (q ∙ z));
+        refused = λ _. (e, record { state = refl; count = refl; room = refl });
+        called = λ z. absurd (h (e ∙ z));
         kept = λ _. refl;
       }
 
   pub frame-called : {m : Meter} {r : Received} {f o : List ℕ} {k : ℕ} → n ≡ 0 → m ≡ meterIn s → Answered a m l o r → FrameEnds r s f k → FrameCalled a s f l o (r .count) k
   frame-called {r = r} {o = o} z i v d =
-      let y : ownRefusal (statusOf s) true ≡ 0 = sym (own-is s refl u e) ∙ z in
+      let y : ownRefusal (statusOf s) true ≡ 0 = sym e ∙ z in
       let w = own-none (statusOf s) true y .0 in
       record {
         refused = λ h. absurd (h y);

@@ -1,7 +1,8 @@
 -- What the calls of the static library promise, for every state buffer and whatever is lent. s is what the state buffer held, e
 -- what it holds afterwards, n the number answered. The library's own refusal is answered where there is one; else the call is
--- made on what the buffer holds, and number, reply and buffer are those of the model's step: where the call changes the meter,
--- every byte of the buffer is that of the one image of what the meter then holds (`imageFor`). Else the buffer is as it was.
+-- made on what the buffer holds, and number, reply and buffer are those of the model's step: where an owner's call is accepted,
+-- and after a frame call unless its refusal leaves the meter unchanged (`keeping`), every byte of the buffer is that of the one
+-- image of what the meter then holds (`imageFor`). Else the buffer is as it was.
 use mathlib.Core.Path.{_≡_}
 use mathlib.Core.Bool.{Bool, true, false}
 use mathlib.Core.List.{List, []}
@@ -19,14 +20,9 @@ use Rattle.meter.specs.Canonical.{canonical}
 use Rattle.protocol.specs.Decide.{p2}
 use Rattle.protocol.specs.Outcomes.{keeping}
 use Rattle.p2.specs.declared.Received.{Received}
-use Rattle.image.specs.declared.ImageRead.{ImageRead}
 use Rattle.image.specs.declared.Status.the-variants.{Whole}
 use Rattle.image.specs.Image.{imageSize, imageOf, meterOf, statusOf}
 use Rattle.capi.specs.Refusals.{ownRefusal, newRefusal, newSized}
-
--- the image of this very meter is read
-abbrev pub whole : Meter → ImageRead
-whole m = record { status = Whole; meter = m }
 
 -- the one image of what a meter holds: zeros wherever it holds nothing
 abbrev pub imageFor : Model → List ℕ

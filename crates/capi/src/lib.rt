@@ -14,7 +14,7 @@ use meter::Changed;
 use meter::Meter;
 use own::WRONG_STATE_SIZE;
 use own::argument_refusal;
-use own::own_refusal;
+use own::refusal_of;
 use p2::Received;
 ghost use mathlib.Core.Path.{_≡_};
 ghost use mathlib.Core.Bool.{true};
@@ -69,8 +69,7 @@ pub extern "C" fn birlimock_new(
 pub extern "C" fn birlimock_give_registers(state: &mut [u8], registers: &[u8]) -> u8
     ensures { λ r. ⌜ OwnerCalled (wholeList registerPart (now (registers .entry))) (Call.giveRegisters (listIn registerPart (now (registers .entry)))) (now (state .entry)) (now (state .exit)) r ⌝ }
 {
-    let status = image::status_of(state);
-    let n = own_refusal(status, image::are_registers(registers));
+    let n = refusal_of(state, image::are_registers(registers));
     if n != 0 {
         return n;
     }
@@ -86,8 +85,7 @@ pub extern "C" fn birlimock_give_registers(state: &mut [u8], registers: &[u8]) -
 pub extern "C" fn birlimock_set_value(state: &mut [u8], name: &[u8], value: u32) -> u8
     ensures { λ r. ⌜ OwnerCalled (sized 6 (now (name .entry))) (Call.setValue (record { bytes = now (name .entry) }) value) (now (state .entry)) (now (state .exit)) r ⌝ }
 {
-    let status = image::status_of(state);
-    let n = own_refusal(status, name.len() == NAME);
+    let n = refusal_of(state, name.len() == NAME);
     if n != 0 {
         return n;
     }
@@ -101,8 +99,7 @@ pub extern "C" fn birlimock_set_value(state: &mut [u8], name: &[u8], value: u32)
 pub extern "C" fn birlimock_set_columns(state: &mut [u8], names: &[u8]) -> u8
     ensures { λ r. ⌜ OwnerCalled (wholeList namePart (now (names .entry))) (Call.setColumns (listIn namePart (now (names .entry)))) (now (state .entry)) (now (state .exit)) r ⌝ }
 {
-    let status = image::status_of(state);
-    let n = own_refusal(status, image::are_names(names));
+    let n = refusal_of(state, image::are_names(names));
     if n != 0 {
         return n;
     }
@@ -118,8 +115,7 @@ pub extern "C" fn birlimock_set_columns(state: &mut [u8], names: &[u8]) -> u8
 pub extern "C" fn birlimock_set_period(state: &mut [u8], period: u32) -> u8
     ensures { λ r. ⌜ OwnerCalled true (Call.setPeriod period) (now (state .entry)) (now (state .exit)) r ⌝ }
 {
-    let status = image::status_of(state);
-    let n = own_refusal(status, true);
+    let n = refusal_of(state, true);
     if n != 0 {
         return n;
     }
@@ -133,8 +129,7 @@ pub extern "C" fn birlimock_set_period(state: &mut [u8], period: u32) -> u8
 pub extern "C" fn birlimock_tick(state: &mut [u8], clock: &[u8]) -> u8
     ensures { λ r. ⌜ OwnerCalled (sized 12 (now (clock .entry))) (Call.tick (record { bytes = now (clock .entry) })) (now (state .entry)) (now (state .exit)) r ⌝ }
 {
-    let status = image::status_of(state);
-    let n = own_refusal(status, clock.len() == CLOCK);
+    let n = refusal_of(state, clock.len() == CLOCK);
     if n != 0 {
         return n;
     }
@@ -148,8 +143,7 @@ pub extern "C" fn birlimock_tick(state: &mut [u8], clock: &[u8]) -> u8
 pub extern "C" fn birlimock_set_p5(state: &mut [u8], held: u32) -> u8
     ensures { λ r. ⌜ OwnerCalled (isFlag held) (Call.setP5 (eqb held 1)) (now (state .entry)) (now (state .exit)) r ⌝ }
 {
-    let status = image::status_of(state);
-    let n = own_refusal(status, held < 2);
+    let n = refusal_of(state, held < 2);
     if n != 0 {
         return n;
     }
@@ -163,8 +157,7 @@ pub extern "C" fn birlimock_set_p5(state: &mut [u8], held: u32) -> u8
 pub extern "C" fn birlimock_power_up(state: &mut [u8]) -> u8
     ensures { λ r. ⌜ OwnerCalled true Call.powerUp (now (state .entry)) (now (state .exit)) r ⌝ }
 {
-    let status = image::status_of(state);
-    let n = own_refusal(status, true);
+    let n = refusal_of(state, true);
     if n != 0 {
         return n;
     }
@@ -187,8 +180,7 @@ pub extern "C" fn birlimock_receive(
     ensures { λ r. ⌜ FrameCalled (lent (length (now (reply .entry))) (now (guk .entry)) (now (ak .entry)) (now (challenge .entry)) (now (frame .entry))) (now (state .entry)) (now (state .exit)) (now (reply .entry)) (now (reply .exit)) (now (sent .exit)) r ⌝ }
 {
     *sent = 0;
-    let status = image::status_of(state);
-    let n = own_refusal(status, true);
+    let n = refusal_of(state, true);
     if n != 0 {
         return n;
     }

@@ -27,19 +27,18 @@ ghost use Rattle.model.specs.Soundness.{sound};
 ghost use Rattle.model.specs.State.{none};
 ghost use Rattle.model.specs.declared.Client.the-variants.{Han};
 ghost use Rattle.cosem.specs.Requests.{readGet, requested};
-ghost use Rattle.envelope.specs.Layout.{keysOf};
 ghost use Rattle.line.specs.View.{lineOf};
 ghost use Rattle.meter.specs.View.{view};
-ghost use Rattle.protocol.specs.declared.Secrets.{Secrets as Lent};
-ghost use Rattle.protocol.specs.Clients.{associates, dedicatedKeys, selectiveIn};
+ghost use Rattle.protocol.specs.declared.Secrets.{Secrets as Lender};
+ghost use Rattle.protocol.specs.Clients.{associates, selectiveIn};
 ghost use Rattle.protocol.specs.Rulings.{asks, nothing, outsideWindow, says};
 ghost use Rattle.protocol.specs.Decide.{accepted, advanced, asked, askedInside, readInside, requestEnclosed, wrap};
-ghost use Rattle.p2.specs.Promise.{Follows, Tells};
+ghost use Rattle.p2.specs.Promise.{Follows, FollowsUnder, Tells};
 
 // A plain request. No key has a part in it.
 pub fn ask_plain(meter: Meter, client: Client, head: Head, apdu: &[u8], out: &mut [u8]) -> Received
     requires { ⌜ (sound (view meter) ≡ true) × (replyRoom longestSent ≤ length (now out)) ⌝ }
-    ensures { λ r. ⌜ ((a : Lent) → Follows (asked (lineOf (meter .line)) a client head (now (apdu .entry)) (readGet (now (apdu .entry)))) meter (now (out .entry)) (now (out .exit)) r) ⌝ }
+    ensures { λ r. ⌜ ((a : Lender) → Follows (asked (lineOf (meter .line)) a client head (now (apdu .entry)) (readGet (now (apdu .entry)))) meter (now (out .entry)) (now (out .exit)) r) ⌝ }
 {
     let line = meter.line;
     let reading = cosem::read_get(apdu);
@@ -136,7 +135,7 @@ fn ask_inside(
     out: &mut [u8],
 ) -> Received
     requires { ⌜ (sound (view meter) ≡ true) × (0xC0 < tag) × (tag < 0xFC) × (replyRoom longestSent ≤ length (now out)) ⌝ }
-    ensures { λ r. ⌜ ((a : Lent) → keysOf keys ≡ dedicatedKeys (a .ak) (lineOf (meter .line)) → Follows (askedInside (lineOf (meter .line)) a head tag counter (now (text .entry)) (readInside tag (now (text .entry)))) meter (now (out .entry)) (now (out .exit)) r) ⌝ }
+    ensures { λ r. ⌜ FollowsUnder keys (λ a. askedInside (lineOf (meter .line)) a head tag counter (now (text .entry)) (readInside tag (now (text .entry)))) meter (now (out .entry)) (now (out .exit)) r ⌝ }
 {
     let reading = read_inside(tag, text);
     match reading {
@@ -173,7 +172,7 @@ fn answer_enclosed(
     out: &mut [u8],
 ) -> Received
     requires { ⌜ (sound (view meter) ≡ true) × (0xC0 < tag) × (tag < 0xFC) × (replyRoom longestSent ≤ length (now out)) ⌝ }
-    ensures { λ r. ⌜ ((ak : List ℕ) → keysOf keys ≡ dedicatedKeys ak (lineOf (meter .line)) → Follows (asks (requested Han (selectiveIn Han (lineOf (meter .line))) (now (text .entry)) request) (wrap ak head tag) (advanced (accepted counter (lineOf (meter .line))))) meter (now (out .entry)) (now (out .exit)) r) ⌝ }
+    ensures { λ r. ⌜ FollowsUnder keys (λ a. asks (requested Han (selectiveIn Han (lineOf (meter .line))) (now (text .entry)) request) (wrap (a .ak) head tag) (advanced (accepted counter (lineOf (meter .line))))) meter (now (out .entry)) (now (out .exit)) r ⌝ }
 {
     let line = meter.line;
     let body = meter.body;

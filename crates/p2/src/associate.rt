@@ -17,13 +17,12 @@ ghost use Rattle.model.specs.Limits.{longestSent, replyRoom};
 ghost use Rattle.model.specs.declared.Client.the-variants.{Han};
 ghost use Rattle.acse.specs.Aarq.{readAarq};
 ghost use Rattle.acse.specs.Initiate.{readRequest};
-ghost use Rattle.envelope.specs.Layout.{keysOf};
 ghost use Rattle.envelope.specs.Opening.{opened};
 ghost use Rattle.line.specs.View.{lineOf};
 ghost use Rattle.protocol.specs.Clients.{lentKeys, peer};
 ghost use Rattle.protocol.specs.Rulings.{aarqNotAccepted, refuses};
 ghost use Rattle.protocol.specs.Decide.{acceptedCiphered, acceptedPlain, associating, enclosed, initiated};
-ghost use Rattle.p2.specs.Promise.{Tells};
+ghost use Rattle.p2.specs.Promise.{Tells, TellsWith};
 
 // An AARQ.
 pub fn associate(
@@ -132,7 +131,7 @@ fn initiate(
     out: &mut [u8],
 ) -> Told
     requires { ⌜ replyRoom longestSent ≤ length (now out) ⌝ }
-    ensures { λ r. ⌜ (keysOf keys ≡ lentKeys secrets → Tells (initiated (lineOf line) secrets head challenge (now (text .entry)) counter (readRequest (now (text .entry)))) line (now (out .entry)) (now (out .exit)) r) ⌝ }
+    ensures { λ r. ⌜ TellsWith keys secrets (initiated (lineOf line) secrets head challenge (now (text .entry)) counter (readRequest (now (text .entry)))) line (now (out .entry)) (now (out .exit)) r ⌝ }
 {
     let request = acse::read_request(text);
     match request {
@@ -168,7 +167,7 @@ fn accept_ciphered(
     out: &mut [u8],
 ) -> Told
     requires { ⌜ replyRoom longestSent ≤ length (now out) ⌝ }
-    ensures { λ r. ⌜ (keysOf keys ≡ lentKeys secrets → Tells (acceptedCiphered (lineOf line) secrets head challenge key proposed counter) line (now (out .entry)) (now (out .exit)) r) ⌝ }
+    ensures { λ r. ⌜ TellsWith keys secrets (acceptedCiphered (lineOf line) secrets head challenge key proposed counter) line (now (out .entry)) (now (out .exit)) r ⌝ }
 {
     let title = line.title;
     let han = line.han;

@@ -22,11 +22,11 @@ ghost use lib.ListN.{length};
 ghost use Rattle.model.specs.Limits.{longestSent, replyRoom};
 ghost use Rattle.cosem.specs.Requests.{readAction};
 ghost use Rattle.envelope.specs.Layout.{keysOf};
+ghost use Rattle.envelope.specs.Challenge.{rightProof};
 ghost use Rattle.line.specs.View.{lineOf};
-ghost use Rattle.protocol.specs.declared.Secrets.{Secrets as Lent};
-ghost use Rattle.protocol.specs.Clients.{lentKeys};
-ghost use Rattle.protocol.specs.Decide.{answeredChallenge, challenged, challengeEnclosed, disproved, isChallenge, onFirstMethod, proofIn, proved, provesItself};
-ghost use Rattle.p2.specs.Promise.{Tells};
+ghost use Rattle.protocol.specs.Clients.{meterChallenge};
+ghost use Rattle.protocol.specs.Decide.{answeredChallenge, challenged, challengeEnclosed, disproved, isChallenge, onFirstMethod, proofIn, proved};
+ghost use Rattle.p2.specs.Promise.{Tells, TellsUnder};
 
 // An envelope with the tag of the challenge's answer.
 pub fn hear_challenge(
@@ -63,7 +63,7 @@ fn answer_challenge(
     out: &mut [u8],
 ) -> Told
     requires { ⌜ replyRoom longestSent ≤ length (now out) ⌝ }
-    ensures { λ r. ⌜ ((a : Lent) → keysOf keys ≡ lentKeys a → Tells (answeredChallenge (lineOf line) a head counter (now (text .entry)) (readAction (now (text .entry)))) line (now (out .entry)) (now (out .exit)) r) ⌝ }
+    ensures { λ r. ⌜ TellsUnder keys (λ a. answeredChallenge (lineOf line) a head counter (now (text .entry)) (readAction (now (text .entry)))) line (now (out .entry)) (now (out .exit)) r ⌝ }
 {
     let reading = cosem::read_action(text);
     match reading {
@@ -86,7 +86,7 @@ fn judge(
     out: &mut [u8],
 ) -> Told
     requires { ⌜ replyRoom longestSent ≤ length (now out) ⌝ }
-    ensures { λ r. ⌜ ((a : Lent) → keysOf keys ≡ lentKeys a → Tells (challenged (lineOf line) a head counter (now (text .entry)) request) line (now (out .entry)) (now (out .exit)) r) ⌝ }
+    ensures { λ r. ⌜ TellsUnder keys (λ a. challenged (lineOf line) a head counter (now (text .entry)) request) line (now (out .entry)) (now (out .exit)) r ⌝ }
 {
     if !is_challenge(text, request) {
         let next = accept_counter(line, counter);
@@ -141,7 +141,7 @@ fn proves_itself(
     text: &[u8],
     request: Asked,
 ) -> bool
-    ensures { λ r. ⌜ ((a : Lent) → keysOf keys ≡ lentKeys a → r ≡ provesItself (lineOf line) a counter (now (text .entry)) request) ⌝ }
+    ensures { λ r. ⌜ r ≡ rightProof (keysOf keys) (lineOf line .han .peer .title) (meterChallenge (lineOf line .han .peer .association)) (lineOf line .han .counters .accepted) counter (proofIn (now (text .entry)) (request .wanted)) ⌝ }
 {
     let title = association::title_of(line, Client::Han);
     let challenge = association::meter_challenge(line);
@@ -177,7 +177,7 @@ fn prove(
     out: &mut [u8],
 ) -> Told
     requires { ⌜ replyRoom longestSent ≤ length (now out) ⌝ }
-    ensures { λ r. ⌜ ((a : Lent) → keysOf keys ≡ lentKeys a → Tells (proved (lineOf line) a head invoke counter) line (now (out .entry)) (now (out .exit)) r) ⌝ }
+    ensures { λ r. ⌜ TellsUnder keys (λ a. proved (lineOf line) a head invoke counter) line (now (out .entry)) (now (out .exit)) r ⌝ }
 {
     let title = line.title;
     let han = line.han;
@@ -213,7 +213,7 @@ fn disprove(
     out: &mut [u8],
 ) -> Told
     requires { ⌜ replyRoom longestSent ≤ length (now out) ⌝ }
-    ensures { λ r. ⌜ ((a : Lent) → keysOf keys ≡ lentKeys a → Tells (disproved (lineOf line) a head invoke counter) line (now (out .entry)) (now (out .exit)) r) ⌝ }
+    ensures { λ r. ⌜ TellsUnder keys (λ a. disproved (lineOf line) a head invoke counter) line (now (out .entry)) (now (out .exit)) r ⌝ }
 {
     let title = line.title;
     let han = line.han;

@@ -9,11 +9,7 @@ ghost use mathlib.Core.Path.{_≡_};
 ghost use Prim.Native.Nat.{_≤_};
 ghost use lib.ListN.{length};
 ghost use Rattle.model.specs.Limits.{longestSent, replyRoom};
-ghost use Rattle.line.specs.declared.LineState.{LineState as Before};
-ghost use Rattle.line.specs.View.{lineOf};
-ghost use Rattle.cosem.specs.Tags.{exceptionBytes};
-ghost use Rattle.protocol.specs.Rulings.{apdu, refusalOf, says, Test};
-ghost use Rattle.p2.specs.Promise.{meterOf, received, SameAssociations, Tells, told};
+ghost use Rattle.p2.specs.Promise.{Excepts, meterWith, received, told};
 
 // Nothing goes out, and the line is as it was.
 pub fn kept(refusal: u8, line: LineState) -> Told
@@ -29,7 +25,7 @@ pub fn kept(refusal: u8, line: LineState) -> Told
 // An exception, and the line becomes this one, with the same associations as before.
 pub fn except(line: LineState, head: Head, e: Exception, out: &mut [u8]) -> Told
     requires { ⌜ replyRoom longestSent ≤ length (now out) ⌝ }
-    ensures { λ r. ⌜ ((before : Before) (t : Test) → refusalOf t ≡ 12 → SameAssociations (lineOf before) (lineOf line) → Tells (says t (apdu head (exceptionBytes e)) (lineOf line)) before (now (out .entry)) (now (out .exit)) r) ⌝ }
+    ensures { λ r. ⌜ Excepts e head line (now (out .entry)) (now (out .exit)) r ⌝ }
 {
     let count = replies::send_exception(out, head, e);
     Told {
@@ -41,7 +37,7 @@ pub fn except(line: LineState, head: Head, e: Exception, out: &mut [u8]) -> Told
 
 // What the line answered, with the meter: its body is as it was.
 pub fn joined(answer: Told, meter: Meter) -> Received
-    ensures { λ r. ⌜ r ≡ received (answer .refusal) (answer .count) (meterOf (answer .line) (meter .body)) ⌝ }
+    ensures { λ r. ⌜ r ≡ received (answer .refusal) (answer .count) (meterWith (answer .line) (meter .body)) ⌝ }
 {
     let line = answer.line;
     let body = meter.body;

@@ -7,10 +7,9 @@ use Rattle.capi.proofs.birlimock_give_registers.Tie as tie
 
 returns : tie.Need-returns
 returns c =
-    let at-own-refusal = c .before in
-    let at-are-registers = at-own-refusal .before in
-    let at-status-of = at-are-registers .before in
-    owner-refused (at-are-registers .are-registers .ensures) (at-status-of .status-of .ensures) (at-own-refusal .own-refusal .ensures) (c .if1 .taken)
+    let at-refusal-of = c .before in
+    let at-are-registers = at-refusal-of .before in
+    owner-refused (at-are-registers .are-registers .ensures) (at-refusal-of .refusal-of .ensures) (c .if1 .taken)
 
 returns-2 : tie.Need-returns-2
 returns-2 c =
@@ -19,10 +18,9 @@ returns-2 c =
     let at-meter-in = at-give-registers .before in
     let at-registers-in = at-meter-in .before .before in
     let at-if1 = at-registers-in .before in
-    let at-own-refusal = at-if1 .before in
-    let at-are-registers = at-own-refusal .before in
-    let at-status-of = at-are-registers .before in
-    owner-called (at-are-registers .are-registers .ensures) (at-status-of .status-of .ensures) (at-own-refusal .own-refusal .ensures) (at-if1 .if1 .left) (at-meter-in .meter-in .ensures)
+    let at-refusal-of = at-if1 .before in
+    let at-are-registers = at-refusal-of .before in
+    owner-called (at-are-registers .are-registers .ensures) (at-refusal-of .refusal-of .ensures) (at-if1 .if1 .left) (at-meter-in .meter-in .ensures)
     (λ _. registers-given (at-registers-in .registers-in .ensures) (at-give-registers .give-registers .ensures))
     (at-end .end .ensures)
 
@@ -30,7 +28,6 @@ pub birlimock-give-registers-spec : {M : Type 1} → statement M
 birlimock-give-registers-spec =
     tie.close
     (tie.spec
-    (λ c κs. search needs)
     (λ c κs. search needs)
     (λ c κs. search needs)
     (λ c. search needs)

@@ -2,14 +2,15 @@
 use borrow.Author.Needs.{needs}
 use mathlib.Core.Path.{refl}
 use Rattle.capi.proofs.CallLaws.{owner-refused, owner-called}
+use mathlib.Core.Path.{refl}
+use Rattle.capi.proofs.CallLaws.{owner-refused, owner-called}
 use Rattle.capi.proofs.birlimock_power_up.Statement.{statement}
 use Rattle.capi.proofs.birlimock_power_up.Tie as tie
 
 returns : tie.Need-returns
 returns c =
-    let at-own-refusal = c .before in
-    let at-status-of = at-own-refusal .before in
-    owner-refused refl (at-status-of .status-of .ensures) (at-own-refusal .own-refusal .ensures) (c .if1 .taken)
+    let at-refusal-of = c .before in
+    owner-refused refl (at-refusal-of .refusal-of .ensures) (c .if1 .taken)
 
 returns-2 : tie.Need-returns-2
 returns-2 c =
@@ -17,9 +18,8 @@ returns-2 c =
     let at-power-up = at-end .before .before in
     let at-meter-in = at-power-up .before in
     let at-if1 = at-meter-in .before .before in
-    let at-own-refusal = at-if1 .before in
-    let at-status-of = at-own-refusal .before in
-    owner-called refl (at-status-of .status-of .ensures) (at-own-refusal .own-refusal .ensures) (at-if1 .if1 .left) (at-meter-in .meter-in .ensures)
+    let at-refusal-of = at-if1 .before in
+    owner-called refl (at-refusal-of .refusal-of .ensures) (at-if1 .if1 .left) (at-meter-in .meter-in .ensures)
     (λ _. at-power-up .power-up .ensures .owned)
     (at-end .end .ensures)
 
@@ -27,7 +27,6 @@ pub birlimock-power-up-spec : {M : Type 1} → statement M
 birlimock-power-up-spec =
     tie.close
     (tie.spec
-    (λ c κs. search needs)
     (λ c κs. search needs)
     (λ c. search needs)
     returns

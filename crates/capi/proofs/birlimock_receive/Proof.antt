@@ -6,9 +6,8 @@ use Rattle.capi.proofs.birlimock_receive.Tie as tie
 
 returns : tie.Need-returns
 returns c =
-    let at-own-refusal = c .before in
-    let at-status-of = at-own-refusal .before in
-    frame-refused (at-status-of .status-of .ensures) (at-own-refusal .own-refusal .ensures) (c .if1 .taken)
+    let at-refusal-of = c .before in
+    frame-refused (at-refusal-of .refusal-of .ensures) (c .if1 .taken)
 
 returns-2 : tie.Need-returns-2
 returns-2 c =
@@ -16,9 +15,8 @@ returns-2 c =
     let at-receive = at-frame-end .before .before .before .before in
     let at-meter-in = at-receive .before .before in
     let at-if1 = at-meter-in .before .before in
-    let at-own-refusal = at-if1 .before in
-    let at-status-of = at-own-refusal .before in
-    frame-called (at-status-of .status-of .ensures) (at-own-refusal .own-refusal .ensures) (at-if1 .if1 .left) (at-meter-in .meter-in .ensures)
+    let at-refusal-of = at-if1 .before in
+    frame-called (at-refusal-of .refusal-of .ensures) (at-if1 .if1 .left) (at-meter-in .meter-in .ensures)
     (at-receive .receive .ensures)
     (at-frame-end .frame-end .ensures)
 
@@ -26,7 +24,6 @@ pub birlimock-receive-spec : {M : Type 1} → statement M
 birlimock-receive-spec =
     tie.close
     (tie.spec
-    (λ c κs. search needs)
     (λ c κs. search needs)
     (λ c. search needs)
     returns

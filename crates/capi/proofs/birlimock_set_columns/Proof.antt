@@ -7,10 +7,9 @@ use Rattle.capi.proofs.birlimock_set_columns.Tie as tie
 
 returns : tie.Need-returns
 returns c =
-    let at-own-refusal = c .before in
-    let at-are-names = at-own-refusal .before in
-    let at-status-of = at-are-names .before in
-    owner-refused (at-are-names .are-names .ensures) (at-status-of .status-of .ensures) (at-own-refusal .own-refusal .ensures) (c .if1 .taken)
+    let at-refusal-of = c .before in
+    let at-are-names = at-refusal-of .before in
+    owner-refused (at-are-names .are-names .ensures) (at-refusal-of .refusal-of .ensures) (c .if1 .taken)
 
 returns-2 : tie.Need-returns-2
 returns-2 c =
@@ -19,10 +18,9 @@ returns-2 c =
     let at-meter-in = at-set-columns .before in
     let at-names-in = at-meter-in .before .before in
     let at-if1 = at-names-in .before in
-    let at-own-refusal = at-if1 .before in
-    let at-are-names = at-own-refusal .before in
-    let at-status-of = at-are-names .before in
-    owner-called (at-are-names .are-names .ensures) (at-status-of .status-of .ensures) (at-own-refusal .own-refusal .ensures) (at-if1 .if1 .left) (at-meter-in .meter-in .ensures)
+    let at-refusal-of = at-if1 .before in
+    let at-are-names = at-refusal-of .before in
+    owner-called (at-are-names .are-names .ensures) (at-refusal-of .refusal-of .ensures) (at-if1 .if1 .left) (at-meter-in .meter-in .ensures)
     (λ _. columns-given (at-names-in .names-in .ensures) (at-set-columns .set-columns .ensures))
     (at-end .end .ensures)
 
@@ -30,7 +28,6 @@ pub birlimock-set-columns-spec : {M : Type 1} → statement M
 birlimock-set-columns-spec =
     tie.close
     (tie.spec
-    (λ c κs. search needs)
     (λ c κs. search needs)
     (λ c κs. search needs)
     (λ c. search needs)

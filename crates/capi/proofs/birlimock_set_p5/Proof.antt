@@ -7,9 +7,8 @@ use Rattle.capi.proofs.birlimock_set_p5.Tie as tie
 
 returns : tie.Need-returns
 returns c =
-    let at-own-refusal = c .before in
-    let at-status-of = at-own-refusal .before in
-    owner-refused refl (at-status-of .status-of .ensures) (at-own-refusal .own-refusal .ensures) (c .if1 .taken)
+    let at-refusal-of = c .before in
+    owner-refused refl (at-refusal-of .refusal-of .ensures) (c .if1 .taken)
 
 returns-2 : tie.Need-returns-2
 returns-2 c =
@@ -17,9 +16,8 @@ returns-2 c =
     let at-set-p5 = at-end .before .before in
     let at-meter-in = at-set-p5 .before in
     let at-if1 = at-meter-in .before .before in
-    let at-own-refusal = at-if1 .before in
-    let at-status-of = at-own-refusal .before in
-    owner-called refl (at-status-of .status-of .ensures) (at-own-refusal .own-refusal .ensures) (at-if1 .if1 .left) (at-meter-in .meter-in .ensures)
+    let at-refusal-of = at-if1 .before in
+    owner-called refl (at-refusal-of .refusal-of .ensures) (at-if1 .if1 .left) (at-meter-in .meter-in .ensures)
     (λ _. at-set-p5 .set-p5 .ensures)
     (at-end .end .ensures)
 
@@ -27,7 +25,6 @@ pub birlimock-set-p5-spec : {M : Type 1} → statement M
 birlimock-set-p5-spec =
     tie.close
     (tie.spec
-    (λ c κs. search needs)
     (λ c κs. search needs)
     (λ c. search needs)
     returns

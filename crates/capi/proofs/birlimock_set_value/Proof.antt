@@ -7,9 +7,8 @@ use Rattle.capi.proofs.birlimock_set_value.Tie as tie
 
 returns : tie.Need-returns
 returns c =
-    let at-own-refusal = c .before in
-    let at-status-of = at-own-refusal .before in
-    owner-refused refl (at-status-of .status-of .ensures) (at-own-refusal .own-refusal .ensures) (c .if1 .taken)
+    let at-refusal-of = c .before in
+    owner-refused refl (at-refusal-of .refusal-of .ensures) (c .if1 .taken)
 
 returns-2 : tie.Need-returns-2
 returns-2 c =
@@ -18,10 +17,9 @@ returns-2 c =
     let at-name-of = at-set-value .before in
     let at-meter-in = at-name-of .before in
     let at-if1 = at-meter-in .before .before in
-    let at-own-refusal = at-if1 .before in
-    let at-status-of = at-own-refusal .before in
-    let s = at-status-of .before .before .before .before in
-    owner-called refl (at-status-of .status-of .ensures) (at-own-refusal .own-refusal .ensures) (at-if1 .if1 .left) (at-meter-in .meter-in .ensures)
+    let at-refusal-of = at-if1 .before in
+    let s = at-refusal-of .before .before .before .before in
+    owner-called refl (at-refusal-of .refusal-of .ensures) (at-if1 .if1 .left) (at-meter-in .meter-in .ensures)
     (λ g. rw (named (s .args .name .now) (at-name-of .name-of .ensures) g) at (at-set-value .set-value .ensures))
     (at-end .end .ensures)
 
@@ -29,7 +27,6 @@ pub birlimock-set-value-spec : {M : Type 1} → statement M
 birlimock-set-value-spec =
     tie.close
     (tie.spec
-    (λ c κs. search needs)
     (λ c κs. search needs)
     (λ c. search needs)
     returns

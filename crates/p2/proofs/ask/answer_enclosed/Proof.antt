@@ -36,7 +36,7 @@ send-enclosed-requires c κs =
 
 returns : tie.Need-returns
 unfolding lineOf taken
-returns c ak e =
+returns c lent e =
     let at-send-enclosed = c .before .before .before in
     let at-answer = at-send-enclosed .before .before .before .before .before .before in
     let at-is-selective = at-answer .before .before in
@@ -52,7 +52,7 @@ returns c ak e =
     let next = at-with-counters .with-counters .ensures ∙ ap (λ (n : Taken). withCounters (n .counters) l) number in
     rw (sym (at-is-selective .is-selective .ensures))
     (serves _ _ (a .meter) _ _ next (t .refusal) (t .body)
-    (enclosed-sent _ _ 20 t ak _ (a .head) (a .tag) _ _ _ (omega arith) (s .pre .1) e refl (ap (λ (n : Taken). n .number) number) (at-send-enclosed .send-enclosed .ensures))
+    (enclosed-sent _ _ 20 t (lent .ak) _ (a .head) (a .tag) _ _ _ (omega arith) (s .pre .1) e refl (ap (λ (n : Taken). n .number) number) (at-send-enclosed .send-enclosed .ensures))
     (counted-same (taken pair .counters) l))
 
 pub answer-enclosed-spec : {M : Type 1} → statement M

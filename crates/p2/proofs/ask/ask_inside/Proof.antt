@@ -11,7 +11,7 @@ returns c a e =
     let at-answer-enclosed = c .before .before in
     let at-reading = at-answer-enclosed .before .before .before in
     let at-read-inside = at-reading .before .before in
-    rw (sym (at-read-inside .read-inside .ensures) ∙ at-reading .reading .given .1) (at-answer-enclosed .answer-enclosed .ensures (a .ak) e)
+    rw (sym (at-read-inside .read-inside .ensures) ∙ at-reading .reading .given .1) (at-answer-enclosed .answer-enclosed .ensures a e)
 
 returns-2 : tie.Need-returns-2
 returns-2 c a e =

@@ -7,7 +7,7 @@ use Rattle.protocol.specs.Clients.{withAssociation, peer}
 use Rattle.model.specs.declared.Client.the-variants.{Han}
 use Rattle.model.specs.State.{none as noAssociation}
 use borrow.Author.Needs.{needs}
-use Rattle.p2.specs.Promise.{meterOf}
+use Rattle.p2.specs.Promise.{meterWith}
 use Rattle.p2.proofs.ask.drop_association.Statement.{statement}
 use Rattle.p2.proofs.ask.drop_association.Tie as tie
 
@@ -15,7 +15,7 @@ returns : tie.Need-returns
 returns c l b =
     let s = c .before in
     let before = lineOf (s .args .line) in
-    says-line outsideWindow nothing (meterOf (s .args .line) b) refl (nothing-sent l) _ (c .ended .ensures .view) refl
+    says-line outsideWindow nothing (meterWith (s .args .line) b) refl (nothing-sent l) _ (c .ended .ensures .view) refl
     (ends-one (c .ended .result) Han (withAssociation noAssociation (peer Han before)) before (c .ended .ensures .wiped))
 
 pub drop-association-spec : {M : Type 1} → statement M

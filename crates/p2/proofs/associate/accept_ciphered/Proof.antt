@@ -8,7 +8,7 @@ use Rattle.protocol.specs.Clients.{associates}
 use Rattle.model.specs.State.{pending}
 use Rattle.model.specs.declared.Client.the-variants.{Han}
 use borrow.Author.Needs.{needs}
-use Rattle.p2.specs.Promise.{meterOf}
+use Rattle.p2.specs.Promise.{meterWith}
 use Rattle.p2.proofs.associate.accept_ciphered.Statement.{statement}
 use Rattle.p2.proofs.associate.accept_ciphered.Tie as tie
 
@@ -24,7 +24,7 @@ returns c e b =
     let l = lineOf (s .args .line) in
     let after = pending (at-agreed .agreed .result) (s .args .key) (s .args .challenge) (s .args .secrets .challenge) in
     rw (sym (at-agreed .agreed .ensures), sym e, sym (at-accept .accept .ensures), sym (at-take .take .ensures))
-    (says-line none _ (meterOf (s .args .line) b) refl (at-send-accepted-ciphered .send-accepted-ciphered .ensures) _ (at-pending .pending .ensures) refl
+    (says-line none _ (meterWith (s .args .line) b) refl (at-send-accepted-ciphered .send-accepted-ciphered .ensures) _ (at-pending .pending .ensures) refl
     (counted (at-pending .pending .result) (at-take .take .result .counters) (associates Han after l)
     (stands-one (at-pending .pending .result) Han after l refl)))
 

@@ -8,7 +8,7 @@ use Rattle.model.specs.State.{associated}
 use Rattle.model.specs.declared.Client.the-variants.{Verification}
 use mathlib.Core.List.{[]}
 use borrow.Author.Needs.{needs}
-use Rattle.p2.specs.Promise.{meterOf}
+use Rattle.p2.specs.Promise.{meterWith}
 use Rattle.p2.proofs.associate.accept_plain.Statement.{statement}
 use Rattle.p2.proofs.associate.accept_plain.Tie as tie
 
@@ -21,7 +21,7 @@ returns c b =
     let s = at-agreed .before .before .before in
     let l = lineOf (s .args .line) in
     rw (sym (at-agreed .agreed .ensures))
-    (says-line none _ (meterOf (s .args .line) b) refl (at-send-accepted-plain .send-accepted-plain .ensures) _ (at-associated-plain .associated-plain .ensures) refl
+    (says-line none _ (meterWith (s .args .line) b) refl (at-send-accepted-plain .send-accepted-plain .ensures) _ (at-associated-plain .associated-plain .ensures) refl
     (stands-one (at-associated-plain .associated-plain .result) Verification (associated (at-agreed .agreed .result) []) l refl))
 
 pub accept-plain-spec : {M : Type 1} → statement M

@@ -8,7 +8,7 @@ use Rattle.protocol.specs.Rulings.{wrongProof}
 use Rattle.protocol.specs.Decide.{disproved}
 use Rattle.p2.proofs.Endings.{counted, ends-one, says-line}
 use borrow.Author.Needs.{needs}
-use Rattle.p2.specs.Promise.{meterOf}
+use Rattle.p2.specs.Promise.{meterWith}
 use Rattle.p2.proofs.challenge.disprove.Statement.{statement}
 use Rattle.p2.proofs.challenge.disprove.Tie as tie
 
@@ -23,7 +23,7 @@ returns c a e b =
     let s = at-accept .before .before .before .before in
     let l = lineOf (s .args .line) in
     rw (sym e, sym (at-accept .accept .ensures), sym (at-take .take .ensures))
-    (says-line wrongProof _ (meterOf (s .args .line) b) refl (at-send-denial .send-denial .ensures) _
+    (says-line wrongProof _ (meterWith (s .args .line) b) refl (at-send-denial .send-denial .ensures) _
     (at-ended .ended .ensures .view ∙ ap (associates Han none) (at-with-counters .with-counters .ensures)) refl
     (counted (at-ended .ended .result) (at-take .take .result .counters) (associates Han none l)
     (ends-one (at-ended .ended .result) Han (withAssociation none (peer Han l)) l (at-ended .ended .ensures .wiped))))

@@ -5,7 +5,7 @@ use Rattle.protocol.specs.Decide.{challengeEnclosed}
 use Rattle.p2.proofs.Endings.{follows, nothing-sent, says-kept}
 use Rattle.p2.proofs.Envelopes.{admits-unopened, admits-outside, admits-inside, admitted-size}
 use borrow.Author.Needs.{needs}
-use Rattle.p2.specs.Promise.{meterOf}
+use Rattle.p2.specs.Promise.{meterWith}
 use Rattle.p2.proofs.challenge.hear_challenge.Statement.{statement}
 use Rattle.p2.proofs.challenge.hear_challenge.Tie as tie
 
@@ -26,7 +26,7 @@ returns c b =
     rw (c .kept .ensures)
     (follows
     (admits-unopened 0xCB (s .args .apdu .now) (at-lent-keys .lent-keys .ensures) (at-title-of .title-of .ensures) (s .args .line) _ (at-admit-envelope .admit-envelope .ensures) (at-enum-told .enum-told .given .1))
-    (says-kept envelopeUnopened nothing (meterOf (s .args .line) b) refl (nothing-sent _)))
+    (says-kept envelopeUnopened nothing (meterWith (s .args .line) b) refl (nothing-sent _)))
 
 returns-2 : tie.Need-returns-2
 unfolding challengeEnclosed

@@ -3,7 +3,9 @@ use mathlib.Core.Path.{refl, sym, _∙_}
 use borrow.Author.Tests.{not-true, not-false}
 use Rattle.protocol.specs.Rulings.{notTheChallenge}
 use Rattle.protocol.specs.Decide.{challenged}
+use Rattle.line.specs.View.{lineOf}
 use Rattle.p2.proofs.Endings.{accepted-same}
+use Rattle.p2.proofs.Envelopes.{proves-under}
 use borrow.Author.Needs.{needs}
 use Rattle.p2.proofs.challenge.judge.Statement.{statement}
 use Rattle.p2.proofs.challenge.judge.Tie as tie
@@ -28,7 +30,8 @@ returns-2 c a e b =
     let at-proves-itself = at-if2 .before in
     let at-if1 = at-proves-itself .before in
     let at-is-challenge = at-if1 .before in
-    rw (sym (at-is-challenge .is-challenge .ensures) ∙ not-false _ (at-if1 .if1 .left), sym (at-proves-itself .proves-itself .ensures a e) ∙ at-if2 .if2 .taken)
+    let s = at-is-challenge .before .before .before in
+    rw (sym (at-is-challenge .is-challenge .ensures) ∙ not-false _ (at-if1 .if1 .left), proves-under (lineOf (s .args .line)) a (s .args .counter) (s .args .text .now) (s .args .request) e (at-proves-itself .proves-itself .ensures) ∙ at-if2 .if2 .taken)
     (at-prove .prove .ensures a e b)
 
 returns-3 : tie.Need-returns-3
@@ -39,7 +42,8 @@ returns-3 c a e b =
     let at-proves-itself = at-if2 .before in
     let at-if1 = at-proves-itself .before in
     let at-is-challenge = at-if1 .before in
-    rw (sym (at-is-challenge .is-challenge .ensures) ∙ not-false _ (at-if1 .if1 .left), sym (at-proves-itself .proves-itself .ensures a e) ∙ at-if2 .if2 .left)
+    let s = at-is-challenge .before .before .before in
+    rw (sym (at-is-challenge .is-challenge .ensures) ∙ not-false _ (at-if1 .if1 .left), proves-under (lineOf (s .args .line)) a (s .args .counter) (s .args .text .now) (s .args .request) e (at-proves-itself .proves-itself .ensures) ∙ at-if2 .if2 .left)
     (at-disprove .disprove .ensures a e b)
 
 pub judge-spec : {M : Type 1} → statement M

@@ -8,7 +8,7 @@ use Rattle.protocol.specs.Clients.{associates, agreedIn, keyIn}
 use Rattle.model.specs.State.{associated}
 use Rattle.model.specs.declared.Client.the-variants.{Han}
 use borrow.Author.Needs.{needs}
-use Rattle.p2.specs.Promise.{meterOf}
+use Rattle.p2.specs.Promise.{meterWith}
 use Rattle.p2.proofs.challenge.prove.Statement.{statement}
 use Rattle.p2.proofs.challenge.prove.Tie as tie
 
@@ -26,7 +26,7 @@ returns c a e b =
     let held = l .han .peer .association in
     let after = associated (agreedIn held) (keyIn held) in
     rw (sym e, sym (at-client-challenge .client-challenge .ensures), sym (at-accept .accept .ensures), sym (at-take .take .ensures), sym (at-take2 .take2 .ensures))
-    (says-line none _ (meterOf (s .args .line) b) refl (at-send-proof .send-proof .ensures) _ (at-associated-ciphered .associated-ciphered .ensures .view) refl
+    (says-line none _ (meterWith (s .args .line) b) refl (at-send-proof .send-proof .ensures) _ (at-associated-ciphered .associated-ciphered .ensures .view) refl
     (counted (at-associated-ciphered .associated-ciphered .result) (at-take2 .take2 .result .counters) (associates Han after l)
     (stands-one (at-associated-ciphered .associated-ciphered .result) Han after l refl)))
 

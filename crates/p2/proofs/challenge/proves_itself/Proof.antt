@@ -1,19 +1,17 @@
 -- `p2::challenge::proves_itself` meets its contract.
 use mathlib.Core.Path.{refl, _∙_}
 use Rattle.line.specs.View.{lineOf}
-use Rattle.protocol.specs.Decide.{provesItself}
 use borrow.Author.Needs.{needs}
 use Rattle.p2.proofs.challenge.proves_itself.Statement.{statement}
 use Rattle.p2.proofs.challenge.proves_itself.Tie as tie
 
 returns : tie.Need-returns
-unfolding provesItself lineOf
-returns c a e =
+unfolding lineOf
+returns c =
     let at-proof-in = c .before in
     let at-meter-challenge = at-proof-in .before .before in
-    let at-title-of = at-meter-challenge .before in
     c .is-right-proof .ensures
-    ∙ rw (e, at-title-of .title-of .ensures, at-meter-challenge .meter-challenge .ensures, at-proof-in .proof-in .ensures) refl
+    ∙ rw (at-meter-challenge .before .title-of .ensures, at-meter-challenge .meter-challenge .ensures, at-proof-in .proof-in .ensures) refl
 
 pub proves-itself-spec : {M : Type 1} → statement M
 proves-itself-spec =

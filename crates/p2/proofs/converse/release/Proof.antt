@@ -9,7 +9,7 @@ use Rattle.line.specs.View.{lineOf}
 use Rattle.protocol.specs.Clients.{withAssociation, peer}
 use Rattle.model.specs.State.{none as noAssociation}
 use borrow.Author.Needs.{needs}
-use Rattle.p2.specs.Promise.{meterOf}
+use Rattle.p2.specs.Promise.{meterWith}
 use Rattle.p2.proofs.converse.release.Statement.{statement}
 use Rattle.p2.proofs.converse.release.Tie as tie
 
@@ -32,7 +32,7 @@ returns-2 c b =
     let s = at-is-release .before .before .before in
     let l = lineOf (s .args .line) in
     rw (sym (at-is-release .is-release .ensures) ∙ not-false _ (at-if1 .if1 .left))
-    (says-line none (apdu (s .args .head) releaseResponse) (meterOf (s .args .line) b) refl (at-send-release .send-release .ensures) _ (at-ended .ended .ensures .view) refl
+    (says-line none (apdu (s .args .head) releaseResponse) (meterWith (s .args .line) b) refl (at-send-release .send-release .ensures) _ (at-ended .ended .ensures .view) refl
     (ends-one (at-ended .ended .result) (s .args .client) (withAssociation noAssociation (peer (s .args .client) l)) l (at-ended .ended .ensures .wiped)))
 
 pub release-spec : {M : Type 1} → statement M

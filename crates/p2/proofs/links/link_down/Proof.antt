@@ -10,7 +10,7 @@ use Rattle.line.specs.View.{lineOf}
 use Rattle.protocol.specs.Clients.{linked, peer}
 use mathlib.Core.Bool.{false}
 use borrow.Author.Needs.{needs}
-use Rattle.p2.specs.Promise.{meterOf}
+use Rattle.p2.specs.Promise.{meterWith}
 use Rattle.p2.proofs.links.link_down.Statement.{statement}
 use Rattle.p2.proofs.links.link_down.Tie as tie
 
@@ -37,7 +37,7 @@ returns-2 c b =
     let s = at-is-up .before .before in
     let l = lineOf (s .args .line) in
     rw (sym (at-is-up .is-up .ensures) ∙ not-false _ (at-if1 .if1 .left))
-    (says-line none (ua (s .args .head)) (meterOf (s .args .line) b) refl (at-put-ua .put-ua .ensures) _ (at-with-link .with-link .ensures .view) refl
+    (says-line none (ua (s .args .head)) (meterWith (s .args .line) b) refl (at-put-ua .put-ua .ensures) _ (at-with-link .with-link .ensures .view) refl
     (ends-one (at-with-link .with-link .result) (s .args .client) (linked false (peer (s .args .client) l)) l (at-with-link .with-link .ensures .wiped)))
 
 pub link-down-spec : {M : Type 1} → statement M

@@ -9,7 +9,7 @@ use Rattle.line.specs.View.{lineOf}
 use Rattle.protocol.specs.Clients.{linked, peer}
 use mathlib.Core.Bool.{true}
 use borrow.Author.Needs.{needs}
-use Rattle.p2.specs.Promise.{meterOf}
+use Rattle.p2.specs.Promise.{meterWith}
 use Rattle.p2.proofs.links.link_up.Statement.{statement}
 use Rattle.p2.proofs.links.link_up.Tie as tie
 
@@ -45,7 +45,7 @@ returns-3 c b =
     let s = at-if1 .before .before in
     let l = lineOf (s .args .line) in
     rw (at-if1 .if1 .left, sym (at-is-held-by-p5 .is-held-by-p5 .ensures) ∙ at-if2 .if2 .left)
-    (says-line none (ua (s .args .head)) (meterOf (s .args .line) b) refl (at-put-ua .put-ua .ensures) _ (at-with-link .with-link .ensures .view) refl
+    (says-line none (ua (s .args .head)) (meterWith (s .args .line) b) refl (at-put-ua .put-ua .ensures) _ (at-with-link .with-link .ensures .view) refl
     (ends-one (at-with-link .with-link .result) (s .args .client) (linked true (peer (s .args .client) l)) l (at-with-link .with-link .ensures .wiped)))
 
 pub link-up-spec : {M : Type 1} → statement M

@@ -5,7 +5,7 @@ use Rattle.model.proofs.LimitFacts.{reply-room}
 use Rattle.protocol.specs.Rulings.{dm}
 use Rattle.p2.proofs.Endings.{says-kept}
 use borrow.Author.Needs.{needs}
-use Rattle.p2.specs.Promise.{meterOf}
+use Rattle.p2.specs.Promise.{meterWith}
 use Rattle.p2.proofs.links.refuse.Statement.{statement}
 use Rattle.p2.proofs.links.refuse.Tie as tie
 
@@ -18,7 +18,7 @@ returns : tie.Need-returns
 returns c t e b =
     let at-put-dm = c .before .before in
     let s = at-put-dm .before .before .before in
-    says-kept t (dm (s .args .head)) (meterOf (s .args .line) b) (sym e) (at-put-dm .put-dm .ensures)
+    says-kept t (dm (s .args .head)) (meterWith (s .args .line) b) (sym e) (at-put-dm .put-dm .ensures)
 
 pub refuse-spec : {M : Type 1} → statement M
 refuse-spec =

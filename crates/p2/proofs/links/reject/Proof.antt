@@ -4,7 +4,7 @@ use Rattle.model.proofs.LimitFacts.{reply-room}
 use Rattle.protocol.specs.Rulings.{frame, reject}
 use Rattle.p2.proofs.Endings.{says-kept}
 use borrow.Author.Needs.{needs}
-use Rattle.p2.specs.Promise.{meterOf}
+use Rattle.p2.specs.Promise.{meterWith}
 use Rattle.p2.proofs.links.reject.Statement.{statement}
 use Rattle.p2.proofs.links.reject.Tie as tie
 
@@ -17,7 +17,7 @@ returns : tie.Need-returns
 returns c b =
     let at-put-frmr = c .before .before .before in
     let s = at-put-frmr .before .before .before in
-    says-kept (frame (s .args .test)) (reject (s .args .head) (s .args .test)) (meterOf (s .args .line) b) (c .number-of .ensures) (at-put-frmr .put-frmr .ensures)
+    says-kept (frame (s .args .test)) (reject (s .args .head) (s .args .test)) (meterWith (s .args .line) b) (c .number-of .ensures) (at-put-frmr .put-frmr .ensures)
 
 pub reject-spec : {M : Type 1} → statement M
 reject-spec =
