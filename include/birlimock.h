@@ -13,8 +13,9 @@
  *
  * What a call answers: 0, or the number of a refusal: of the library's own first, 101 to 104, then of document 01's. An
  * owner's call that is refused writes nothing. A frame call writes the whole state buffer, changed or not, where it answers 0,
- * 7, 12 or 13, and else nothing of it. What a buffer holds that no meter has (registers, columns and rows above
- * their counts, keys of associations that are over) is not promised, but for zeros where an association ends, in a frame call or by power-up.
+ * 7, 12 or 13, and else nothing of it. What is written has zeros wherever the meter holds nothing: in registers, columns and rows
+ * above their counts, and in the keys, challenges and services of associations that are over. So two buffers that were written
+ * are equal exactly where their meters hold the same.
  */
 #ifndef BIRLIMOCK_H
 #define BIRLIMOCK_H

@@ -3,9 +3,8 @@
 use crate::hexadecimal::hex;
 use crate::library::{self, Answer};
 use crate::random::Random;
-use reference::image::{AGREED_IN, CHALLENGES_AT, HAN_AT, SECRETS_AT, VERIFICATION_AT};
+use reference::image;
 use reference::library::{Call, State};
-use reference::meter::{Ciphered, Plain};
 use reference::receive::Outcome;
 
 /// The numbers after which the state may be another: accepted, and the refusals 7, 12 and 13.
@@ -31,7 +30,7 @@ impl Bench {
 
     /// The call on both; an error tells all about a difference.
     pub fn call(&mut self, random: &mut Random, call: &Call) -> Result<Agreement, String> {
-        let (image_before, state_before) = (self.image.clone(), self.state.clone());
+        let image_before = self.image.clone();
         let room_before = match call {
             Call::Receive { room, .. } => random.bytes(*room),
             _ => vec![],
@@ -43,7 +42,7 @@ impl Bench {
         let difference = answer_difference(call, &outcome, &answer)
             .or_else(|| room_difference(&outcome, &room_before, &room))
             .or_else(|| self.state_difference(&outcome, &image_before))
-            .or_else(|| self.traces(call, &state_before))
+            .or_else(|| self.byte_difference(&outcome))
             .or_else(|| self.memory_of_before(random, call, &outcome));
         match difference {
             None => Ok(Agreement { outcome, room }),
@@ -58,31 +57,11 @@ impl Bench {
         (State::of(&self.image) != self.state).then_some("the states after the call differ")
     }
 
-    /// What a frame call or power-up left of an association that it ended, or of challenges that were answered in it.
-    fn traces(&self, call: &Call, before: &State) -> Option<&'static str> {
-        let (Call::Receive { .. } | Call::PowerUp, Some(before), Some(after)) =
-            (call, before.meter(), self.state.meter())
-        else {
-            return None;
-        };
-        let all_zero = |range: std::ops::Range<usize>| self.image[range].iter().all(|&byte| byte == 0);
-        let agreed_of = |client: usize| client + AGREED_IN.start..client + AGREED_IN.end;
-        let was_v = before.verification.association != Plain::Absent;
-        let was_h = before.han.association != Ciphered::Absent;
-        let v_ended = was_v && after.verification.association == Plain::Absent;
-        let h_ended = was_h && after.han.association == Ciphered::Absent;
-        if v_ended && !all_zero(agreed_of(VERIFICATION_AT)) {
-            return Some("V's association ended and left its services");
-        }
-        if h_ended && !(all_zero(agreed_of(HAN_AT)) && all_zero(SECRETS_AT)) {
-            return Some("H's association ended and left services, key or challenges");
-        }
-        let answered = matches!(before.han.association, Ciphered::Pending { .. })
-            && matches!(after.han.association, Ciphered::Associated { .. });
-        if answered && !all_zero(CHALLENGES_AT) {
-            return Some("H's challenge was answered and left the challenges");
-        }
-        None
+    /// A call that may change the meter writes its one image: zeros in all that the meter does not hold.
+    fn byte_difference(&self, outcome: &Outcome) -> Option<&'static str> {
+        let meter = self.state.meter().filter(|_| CHANGING.contains(&outcome.number))?;
+        (self.image != image::write(meter, &[0; image::SIZE]))
+            .then_some("the state buffer is not the image of its meter")
     }
 
     /// A new meter must not depend on what the buffer held: here it holds something else.

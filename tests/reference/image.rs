@@ -18,15 +18,14 @@ const ROWS: usize = 15;
 const CELLS: usize = 16;
 
 /// Where a client's record begins, and where its parts stand within it.
-pub const VERIFICATION_AT: usize = 9;
-pub const HAN_AT: usize = 22;
+const VERIFICATION_AT: usize = 9;
+const HAN_AT: usize = 22;
 const LINK_IN: usize = 8;
 const PHASE_IN: usize = 9;
-pub const AGREED_IN: std::ops::Range<usize> = 10..13;
+const AGREED_IN: std::ops::Range<usize> = 10..13;
 
-/// H's key and both challenges; the challenges alone; flags and lists.
-pub const SECRETS_AT: std::ops::Range<usize> = 35..67;
-pub const CHALLENGES_AT: std::ops::Range<usize> = 51..67;
+/// H's key and both challenges; flags and lists.
+const SECRETS_AT: std::ops::Range<usize> = 35..67;
 const P5_AT: usize = 75;
 pub const REGISTER_COUNT_AT: usize = 110;
 const REGISTERS_AT: usize = 118;

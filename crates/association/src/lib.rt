@@ -9,7 +9,7 @@ pub use change::pending;
 pub use change::with_counters;
 pub use change::with_link;
 use cosem::Tag;
-use envelope::Keys;
+use envelope::ReadyKeys;
 use line::CipherParty;
 use line::LineState;
 use line::Party;
@@ -20,6 +20,7 @@ ghost use mathlib.Core.Path.{_≡_};
 ghost use mathlib.Core.List.{List};
 ghost use Prim.Native.Nat.{ℕ};
 ghost use Rattle.model.specs.State.{none, «pending» as pendingWith, associated};
+ghost use Rattle.envelope.specs.Layout.{keysOf};
 ghost use Rattle.line.specs.View.{cipheringOf, lineOf};
 ghost use Rattle.protocol.specs.Clients.{agreedIn, bitAgreed, clientChallenge, dedicatedKeys, isUnknown, keyIn, lentKeys, meterChallenge, peer, permitted, selectiveIn};
 ghost use Rattle.protocol.specs.Decide.{heldByP5};
@@ -198,30 +199,22 @@ pub fn meter_challenge(line: LineState) -> [u8; 8]
     }
 }
 
-// The keys around an association's messages.
-pub fn lent_keys(secrets: Secrets) -> Keys
-    ensures { λ r. ⌜ r ≡ lentKeys secrets ⌝ }
+// The keys around an association's messages, made ready.
+pub fn lent_keys(secrets: Secrets) -> ReadyKeys
+    ensures { λ r. ⌜ keysOf r ≡ lentKeys secrets ⌝ }
 {
     let guk = secrets.guk;
     let ak = secrets.ak;
-    Keys {
-        guk,
-        ak,
-        dedicated: [0u8; 16],
-    }
+    envelope::ready_keys(guk, ak)
 }
 
-// The keys around requests and their answers.
-pub fn dedicated_keys(ak: [u8; 16], line: LineState) -> Keys
-    ensures { λ r. ⌜ r ≡ dedicatedKeys ak (lineOf line) ⌝ }
+// The keys around requests and their answers, made ready.
+pub fn dedicated_keys(ak: [u8; 16], line: LineState) -> ReadyKeys
+    ensures { λ r. ⌜ keysOf r ≡ dedicatedKeys ak (lineOf line) ⌝ }
 {
     let h = line.han;
     let dedicated = key_in(h);
-    Keys {
-        guk: [0u8; 16],
-        ak,
-        dedicated,
-    }
+    envelope::ready_keys(dedicated, ak)
 }
 
 // The client's party.

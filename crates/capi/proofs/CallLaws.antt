@@ -1,7 +1,7 @@
 -- The ends of a call of the library: refused by the library itself, or made on the meter in the buffer.
 use mathlib.Core.Path.{_≡_, refl, sym, subst, ap, _∙_}
 use mathlib.Core.Bool.{Bool, true, false, _&&_, and-eq-true-iff}
-use mathlib.Core.List.{List, _∷_}
+use mathlib.Core.List.{List}
 use Prim.Native.Nat.{ℕ, zero, suc, _≤_, _<_}
 use native.Mathlib.Omega.{arith}
 use lib.Dec.{eqb, ltb}
@@ -12,25 +12,31 @@ use Rattle.wire.proofs.ReadingLaws.{by-order}
 use Rattle.model.specs.declared.Name.{Name}
 use Rattle.model.specs.declared.Clock.{Clock}
 use Rattle.model.specs.Periods.{listed}
-use Rattle.model.specs.State.{newMeter}
-use Rattle.model.specs.Calls.{Lent, Call, powerUp}
-use Rattle.line.specs.Left.{Wiped}
+use Rattle.model.specs.State.{Model, newMeter}
+use Rattle.model.specs.Soundness.{sound}
+use Rattle.model.specs.Calls.{Lent, Call, frame, Outcome, early, step}
+use Rattle.model.specs.Demand3.{Promised}
+use Rattle.model.proofs.StaySound.{new-meter-sound}
 use Rattle.meter.specs.declared.Meter.{Meter}
 use Rattle.meter.specs.declared.Changed.{Changed}
 use Rattle.meter.specs.View.{view}
-use Rattle.meter.specs.Promise.{Owned, PoweredUp}
+use Rattle.meter.specs.Promise.{Owned, handed}
+use Rattle.meter.specs.Canonical.{Cleared}
+use Rattle.protocol.specs.Decide.{p2}
 use Rattle.protocol.specs.Outcomes.{keeping}
+use Rattle.protocol.proofs.Claim.{p2-stays-sound}
+use Rattle.protocol.proofs.Outcomes.{row-lent}
 use Rattle.p2.specs.declared.Received.{Received}
-use Rattle.p2.specs.Promise.{Answered}
+use Rattle.p2.specs.Promise.{Answered, handed as received}
 use Rattle.p2.proofs.Endings.{filled-whole}
 use Rattle.image.specs.declared.ImageRead.{ImageRead}
 use Rattle.image.specs.declared.Status.{Status}
 use Rattle.image.specs.declared.Status.the-variants.{Whole, WrongLength, WrongVersion, NoImage}
 use Rattle.image.specs.declared.Written.{Written}
-use Rattle.image.specs.Image.{imageSize, imageOf, meterOf, meterBy, statusOf, readImage, Writes}
-use Rattle.image.proofs.ImageLaws.{passed, read-by, done}
+use Rattle.image.specs.Image.{imageSize, imageOf, meterOf, meterIn, meterBy, statusOf, readImage, Writes}
+use Rattle.image.proofs.ImageLaws.{passed, in-meter, done}
 use Rattle.capi.specs.Refusals.{ownRefusal, newRefusal, newSized, argumentRefusal, sized}
-use Rattle.capi.specs.Promises.{whole, Made, NewCalled, Owns, OwnerCalled, PowerCalled, Ends, Receives, Silent, FrameCalled, FrameEnds}
+use Rattle.capi.specs.Promises.{imageFor, after, Stores, NewCalled, Owns, OwnerCalled, Ends, Receives, FrameCalled, FrameEnds}
 
 -- no refusal of the library's own: the image is whole, and the arguments are taken
 taken-argument : (good : Bool) → argumentRefusal good ≡ 0 → good ≡ true
@@ -73,137 +79,155 @@ keeping-is n z s =
 true-false : true ≡ false → ⊥
 true-false e = absurd (let z : _≡_ {A = ℕ} 0 1 = cc in omega arith)
 
--- what is read of a whole image
-read-whole : (s : List ℕ) → statusOf s ≡ Whole → readImage s ≡ whole (meterOf s)
-read-whole s w = sym (read-by s Whole w)
+-- the image of this very meter is read
+abbrev whole : Meter → ImageRead
+whole m = record { status = Whole; meter = m }
 
-read-meter : (s : List ℕ) {i : ImageRead} → statusOf s ≡ Whole → i ≡ readImage s → i .meter ≡ meterOf s
-read-meter s w e = ap (λ (x : ImageRead). x .meter) (e ∙ read-whole s w)
+-- a whole image has its length, and the meter in it is read
+read-meter : (s : List ℕ) {m : Meter} → statusOf s ≡ Whole → m ≡ meterIn s → m ≡ meterOf s
+read-meter s w e = e ∙ in-meter s (passed s w .long)
 
--- what writing leaves in a buffer of the right length
-written-image : {m : Meter} {s e : List ℕ} {w : Written} → Writes m s e w → length s ≡ imageSize → (e ≡ imageOf m) × (readImage e ≡ whole m)
-written-image w long =
+-- what is stored in a buffer of the right length, where a sound meter was cleared and written
+stored : {m r : Meter} {s e : List ℕ} {w : Written} → Cleared m r → Writes r s e w → length s ≡ imageSize → sound (view m) ≡ true → Stores (view m) e
+stored {m} {r} {e = e} k w long y =
     let d = done w long in
-    (d .1, w .back (d .0))
-
--- what is read of a buffer: its status, and the meter in it
-module _ (e : List ℕ) {m : Meter} (r : readImage e ≡ whole m) where
-  pub read-status : statusOf e ≡ Whole
-  read-status = ap (λ (i : ImageRead). i .status) r
-
-  pub read-same : meterOf e ≡ m
-  read-same = ap (λ (t : Status). meterBy t e) (sym read-status) ∙ ap (λ (i : ImageRead). i .meter) r
-
--- the library's own refusal, as the code works it out
-own-is : {good b : Bool} (s : List ℕ) {i : ImageRead} {n : ℕ} → b ≡ good → i ≡ readImage s → n ≡ ownRefusal (i .status) b → n ≡ ownRefusal (statusOf s) good
-own-is {b = b} s g u e = e ∙ ap (λ (x : ImageRead). ownRefusal (x .status) b) u ∙ ap (ownRefusal (statusOf s)) g
+    let read : readImage e ≡ whole r = w .back (d .0) in
+    let status : statusOf e ≡ Whole = ap (λ (i : ImageRead). i .status) read in
+    let meter : meterOf e ≡ r = ap (λ (t : Status). meterBy t e) (sym status) ∙ ap (λ (i : ImageRead). i .meter) read in
+    record {
+      bytes = d .1 ∙ ap imageOf (k .canonical y);
+      status = status;
+      holds = ap view meter ∙ k .same;
+    }
 
 -- Owner's calls.
+
+-- a call that is accepted was made on a sound meter
+accepted-sound : (c : Call) (m : Model) → step p2 c m .refusal ≡ 0 → sound m ≡ true
+unfolding step
+accepted-sound c m e = go (eqb (early c) 0) (sound m) refl refl e
+  where
+    go : (b y : Bool) → eqb (early c) 0 ≡ b → sound m ≡ y → step p2 c m .refusal ≡ 0 → sound m ≡ true
+    go b true p q e = q
+    go true false p q e = absurd (omega (arith, rw (p, q) at e))
+    go false false p q e = absurd (true-false (sym (eq-eqb (early c) 0 (rw p at e)) ∙ p))
 
 -- the call that was made on the meter in the buffer
 made : {c : Call} {s e : List ℕ} {n : ℕ} {r : Changed} → Owned c (meterOf s) r → statusOf s ≡ Whole → Ends r s e n → Owns c s e n
 made {c} {s} {e} {n} {r} o w d =
     record {
-      result = r;
-      owned = o;
-      number = d .number;
-      written = λ h. d .written (passed s w .long) h .0;
-      read = go n refl;
+      promised = record { refusal = number; count = given .count; meter = go n refl .0; room = given .room };
+      bytes = λ z. (there z .bytes) ∙ ap imageFor (given .meter);
+      again = go n refl .1;
     }
   where
-    kept-read : (n ≡ 0 → ⊥) → readImage e ≡ whole (r .meter)
-    kept-read h = ap readImage (d .kept h) ∙ read-whole s w ∙ ap whole (sym (o .kept (λ q. h (d .number ∙ q))))
+    given : Promised Meter view p2 c (meterOf s) (handed r)
+    given = o .promised p2
 
-    go : (k : ℕ) → n ≡ k → readImage e ≡ whole (r .meter)
-    go zero q = d .written (passed s w .long) q .1
-    go (suc k) q = kept-read (λ h. omega arith)
+    number : n ≡ step p2 c (view (meterOf s)) .refusal
+    number = d .number ∙ given .refusal
 
-module _ {good b : Bool} {c : Call} {s : List ℕ} {i : ImageRead} {n : ℕ} (g : b ≡ good) (u : i ≡ readImage s) (e : n ≡ ownRefusal (i .status) b) where
+    there : n ≡ 0 → Stores (view (r .meter)) e
+    there z =
+        let y = p2-stays-sound c (view (meterOf s)) (accepted-sound c (view (meterOf s)) (sym number ∙ z)) in
+        d .stored (passed s w .long) (ap sound (given .meter) ∙ y) z
+
+    left : (n ≡ 0 → ⊥) → (view (meterOf e) ≡ after c s) × (statusOf e ≡ Whole)
+    left h =
+        let k = d .kept h in
+        (ap (λ (x : List ℕ). view (meterOf x)) k ∙ ap view (sym (o .kept (λ q. h (d .number ∙ q)))) ∙ given .meter, ap statusOf k ∙ w)
+
+    go : (k : ℕ) → n ≡ k → (view (meterOf e) ≡ after c s) × (statusOf e ≡ Whole)
+    go zero q = let t = there q in (t .holds ∙ given .meter, t .status)
+    go (suc k) q = left (λ h. omega arith)
+
+own : {good b : Bool} (s : List ℕ) {n : ℕ} → b ≡ good → n ≡ ownRefusal (statusOf s) b → n ≡ ownRefusal (statusOf s) good
+own s g e = e ∙ ap (ownRefusal (statusOf s)) g
+
+module _ {good b : Bool} {c : Call} {s : List ℕ} {n : ℕ} (g : b ≡ good) (e : n ≡ ownRefusal (statusOf s) b) where
   pub owner-refused : (n ≡ 0 → ⊥) → OwnerCalled good c s s n
   owner-refused h =
-      let q : n ≡ ownRefusal (statusOf s) good = own-is s g u e in
+      let q : n ≡ ownRefusal (statusOf s) good = own s g e in
       record { refused = λ _. q; called = λ z. absurd (h (q ∙ z)); kept = λ _. refl }
 
-  pub owner-called : {r : Changed} {f : List ℕ} {k : ℕ} → n ≡ 0 → (good ≡ true → Owned c (i .meter) r) → Ends r s f k → OwnerCalled good c s f k
-  owner-called {r} z o d =
-      let y : ownRefusal (statusOf s) good ≡ 0 = sym (own-is s g u e) ∙ z in
+  pub owner-called : {m : Meter} {r : Changed} {f : List ℕ} {k : ℕ} → n ≡ 0 → m ≡ meterIn s → (good ≡ true → Owned c m r) → Ends r s f k → OwnerCalled good c s f k
+  owner-called {r = r} z i o d =
+      let y : ownRefusal (statusOf s) good ≡ 0 = sym (own s g e) ∙ z in
       let w = own-none (statusOf s) good y in
       record {
         refused = λ h. absurd (h y);
-        called = λ _. made (subst (λ (m : Meter). Owned c m r) (read-meter s (w .0) u) (o (w .1))) (w .0) d;
+        called = λ _. made (subst (λ (m : Meter). Owned c m r) (read-meter s (w .0) i) (o (w .1))) (w .0) d;
         kept = d .kept;
       }
 
--- Power-up.
-
-module _ {s : List ℕ} {i : ImageRead} {n : ℕ} (u : i ≡ readImage s) (e : n ≡ ownRefusal (i .status) true) where
-  pub power-refused : (n ≡ 0 → ⊥) → PowerCalled s s n
-  power-refused h = record { owner = owner-refused refl u e h; wiped = λ z. absurd (h z) }
-
-  pub power-called : {r : Changed} {f : List ℕ} {k : ℕ} → n ≡ 0 → PoweredUp (i .meter) r → Ends r s f k → PowerCalled s f k
-  unfolding made
-  power-called {r} {f} z p d =
-      let y : ownRefusal (statusOf s) true ≡ 0 = sym (own-is s refl u e) ∙ z in
-      let w = own-none (statusOf s) true y .0 in
-      let same : meterOf f ≡ r .meter = read-same f (made (subst (λ (m : Meter). Owned powerUp m r) (read-meter s w u) (p .owned)) w d .read) in
-      record {
-        owner = owner-called refl u e z (λ _. p .owned) d;
-        wiped = λ q c. subst (λ (m : Meter). Wiped c (m .line)) (sym same) (p .wiped (sym (d .number) ∙ q) c);
-      }
-
 pub ends-refused : {r : Changed} {s : List ℕ} → (r .refusal ≡ 0 → ⊥) → Ends r s s (r .refusal)
-ends-refused h = record { number = refl; written = λ _ z. absurd (h z); kept = λ _. refl }
+ends-refused h = record { number = refl; stored = λ _ _ z. absurd (h z); kept = λ _. refl }
 
-pub ends-written : {r : Changed} {s e : List ℕ} {w : Written} → r .refusal ≡ 0 → Writes (r .meter) s e w → Ends r s e 0
-ends-written z w = record { number = sym z; written = λ long _. written-image w long; kept = λ h. absurd (h refl) }
+pub ends-written : {r : Changed} {m : Meter} {s e : List ℕ} {w : Written} → r .refusal ≡ 0 → Cleared (r .meter) m → Writes m s e w → Ends r s e 0
+ends-written z k w = record { number = sym z; stored = λ long y _. stored k w long y; kept = λ h. absurd (h refl) }
 
 -- Frame calls.
 
+-- a frame call that changes the meter was made on a sound one
+changed-sound : (a : Lent) (m : Model) → listed (step p2 (frame a) m .refusal) keeping ≡ false → sound m ≡ true
+changed-sound a m =
+    row-lent a m (λ (o : Outcome). listed (o .refusal) keeping ≡ false → sound m ≡ true)
+    (λ e. absurd (true-false e))
+    (λ e. absurd (true-false e))
+    (λ e. absurd (true-false e))
+    (λ _ y _. y)
+
 heard : {a : Lent} {s e l o : List ℕ} {n : ℕ} {r : Received} → Answered a (meterOf s) l o r → statusOf s ≡ Whole → FrameEnds r s e n → Receives a s e l o (r .count) n
-heard {s = s} {e = e} {n = n} {r = r} v w d =
+heard {a} {s} {e} {l} {o} {n} {r} v w d =
     record {
-      result = r;
-      answered = v;
-      number = d .number;
-      count = refl;
-      written = λ h. d .written (passed s w .long) h .0;
-      read = go (listed n keeping) refl;
+      promised = record { refusal = number; count = given .count; meter = go (listed n keeping) refl .0; room = given .room };
+      bytes = λ q. there q .bytes ∙ ap imageFor (given .meter);
+      again = go (listed n keeping) refl .1;
     }
   where
-    kept-read : listed n keeping ≡ true → readImage e ≡ whole (r .meter)
-    kept-read h =
-        ap readImage (d .kept h) ∙ read-whole s w ∙ ap whole (sym (v .kept (ap (λ (k : ℕ). listed k keeping) (sym (d .number)) ∙ h)))
+    given : Promised Meter view p2 (frame a) (meterOf s) (received r l o)
+    given = v .promised
 
-    go : (b : Bool) → listed n keeping ≡ b → readImage e ≡ whole (r .meter)
-    go true q = kept-read q
-    go false q = d .written (passed s w .long) q .1
+    number : n ≡ step p2 (frame a) (view (meterOf s)) .refusal
+    number = d .number ∙ given .refusal
 
-module _ {a : Lent} {s l : List ℕ} {i : ImageRead} {n : ℕ} (u : i ≡ readImage s) (e : n ≡ ownRefusal (i .status) true) where
+    there : listed n keeping ≡ false → Stores (view (r .meter)) e
+    there q =
+        let y = p2-stays-sound (frame a) (view (meterOf s)) (changed-sound a (view (meterOf s)) (ap (λ (k : ℕ). listed k keeping) (sym number) ∙ q)) in
+        d .stored (passed s w .long) (ap sound (given .meter) ∙ y) q
+
+    go : (b : Bool) → listed n keeping ≡ b → (view (meterOf e) ≡ after (frame a) s) × (statusOf e ≡ Whole)
+    go true q =
+        let k = d .kept q in
+        let same = v .kept (ap (λ (k : ℕ). listed k keeping) (sym (d .number)) ∙ q) in
+        (ap (λ (x : List ℕ). view (meterOf x)) k ∙ ap view (sym same) ∙ given .meter, ap statusOf k ∙ w)
+    go false q = let t = there q in (t .holds ∙ given .meter, t .status)
+
+module _ {a : Lent} {s l : List ℕ} {n : ℕ} (e : n ≡ ownRefusal (statusOf s) true) where
   pub frame-refused : (n ≡ 0 → ⊥) → FrameCalled a s s l l 0 n
   frame-refused h =
-      let q : n ≡ ownRefusal (statusOf s) true = own-is s refl u e in
       record {
-        refused = λ _. (q, record { state = refl; count = refl; room = refl });
-        called = λ z. absurd (h (q ∙ z));
+        refused = λ _. (e, record { state = refl; count = refl; room = refl });
+        called = λ z. absurd (h (e ∙ z));
         kept = λ _. refl;
       }
 
-  pub frame-called : {r : Received} {f o : List ℕ} {k : ℕ} → n ≡ 0 → Answered a (i .meter) l o r → FrameEnds r s f k → FrameCalled a s f l o (r .count) k
-  frame-called {r} {o = o} z v d =
-      let y : ownRefusal (statusOf s) true ≡ 0 = sym (own-is s refl u e) ∙ z in
+  pub frame-called : {m : Meter} {r : Received} {f o : List ℕ} {k : ℕ} → n ≡ 0 → m ≡ meterIn s → Answered a m l o r → FrameEnds r s f k → FrameCalled a s f l o (r .count) k
+  frame-called {r = r} {o = o} z i v d =
+      let y : ownRefusal (statusOf s) true ≡ 0 = sym e ∙ z in
       let w = own-none (statusOf s) true y .0 in
       record {
         refused = λ h. absurd (h y);
-        called = λ _. heard (subst (λ (m : Meter). Answered a m l o r) (read-meter s w u) v) w d;
+        called = λ _. heard (subst (λ (m : Meter). Answered a m l o r) (read-meter s w i) v) w d;
         kept = d .kept;
       }
 
 pub frame-ends-kept : {r : Received} {s : List ℕ} → listed (r .refusal) keeping ≡ true → FrameEnds r s s (r .refusal)
-frame-ends-kept h = record { number = refl; written = λ _ q. absurd (true-false (sym h ∙ q)); kept = λ _. refl }
+frame-ends-kept h = record { number = refl; stored = λ _ _ q. absurd (true-false (sym h ∙ q)); kept = λ _. refl }
 
-pub frame-ends-written : {r : Received} {s e : List ℕ} {w : Written} → listed (r .refusal) keeping ≡ false → Writes (r .meter) s e w → FrameEnds r s e (r .refusal)
-frame-ends-written h w =
-    record { number = refl; written = λ long _. written-image w long; kept = λ q. absurd (true-false (sym q ∙ h)) }
+pub frame-ends-written : {r : Received} {m : Meter} {s e : List ℕ} {w : Written} → listed (r .refusal) keeping ≡ false → Cleared (r .meter) m → Writes m s e w → FrameEnds r s e (r .refusal)
+frame-ends-written h k w =
+    record { number = refl; stored = λ long y _. stored k w long y; kept = λ q. absurd (true-false (sym q ∙ h)) }
 
 -- A new meter.
 
@@ -218,12 +242,12 @@ module _ {d t v h : List ℕ} {s : List ℕ} where
     pub new-wrong : {n : ℕ} → n ≡ argumentRefusal (newSized d t v h) → (n ≡ 0 → ⊥) → NewCalled d t v h s s n
     new-wrong e k = new-refused (rw (eq-eqb (length s) imageSize long) e) k
 
-    pub new-called : {m : Meter} {e : List ℕ} {w : Written} → argumentRefusal (newSized d t v h) ≡ 0 → view m ≡ newMeter d t v h → Writes m s e w → NewCalled d t v h s e 0
-    new-called {m} z new w =
-        let x = written-image w long in
+    pub new-called : {m r : Meter} {e : List ℕ} {w : Written} → argumentRefusal (newSized d t v h) ≡ 0 → view m ≡ newMeter d t v h → Cleared m r → Writes r s e w → NewCalled d t v h s e 0
+    new-called {e = e} z new k w =
+        let y = ap sound new ∙ new-meter-sound d t v h in
         record {
           refused = λ k. absurd (k (rw (eq-eqb (length s) imageSize long) z));
-          called = λ _. record { meter = m; new = new; number = refl; written = x .0; read = x .1 };
+          called = λ _. record { number = refl; stores = subst (λ (m : Model). Stores m e) new (stored k w long y) };
           kept = λ k. absurd (k refl);
         }
 

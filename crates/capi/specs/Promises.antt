@@ -1,42 +1,53 @@
 -- What the calls of the static library promise, for every state buffer and whatever is lent. s is what the state buffer held, e
--- what it holds afterwards, n the number answered. Three sentences each: the library's own refusal is answered where there is
--- one; else the call of that name is made on the meter in the buffer, and keeps its own promise; and a refused call
--- leaves the buffer as it was, a frame call that is refused by one of `keeping` (its other refusals change the meter).
+-- what it holds afterwards, n the number answered. The library's own refusal is answered where there is one; else the call is
+-- made on what the buffer holds, and number, reply and buffer are those of the model's step: where an owner's call is accepted,
+-- and after a frame call unless its refusal leaves the meter unchanged (`keeping`), every byte of the buffer is that of the one
+-- image of what the meter then holds (`imageFor`). Else the buffer is as it was.
 use mathlib.Core.Path.{_≡_}
 use mathlib.Core.Bool.{Bool, true, false}
-use mathlib.Core.List.{List}
+use mathlib.Core.List.{List, []}
 use Prim.Native.Nat.{ℕ}
 use lib.ListN.{length}
 use Rattle.model.specs.Periods.{listed}
-use Rattle.model.specs.State.{newMeter}
-use Rattle.model.specs.declared.Client.{Client}
-use Rattle.model.specs.Calls.{Lent, Call, powerUp}
-use Rattle.line.specs.Left.{Wiped}
+use Rattle.model.specs.State.{Model, newMeter}
+use Rattle.model.specs.Soundness.{sound}
+use Rattle.model.specs.Calls.{Lent, Call, frame, step}
+use Rattle.model.specs.Demand3.{Handed, Promised}
 use Rattle.meter.specs.declared.Meter.{Meter}
 use Rattle.meter.specs.declared.Changed.{Changed}
 use Rattle.meter.specs.View.{view}
-use Rattle.meter.specs.Promise.{Owned}
+use Rattle.meter.specs.Canonical.{canonical}
+use Rattle.protocol.specs.Decide.{p2}
 use Rattle.protocol.specs.Outcomes.{keeping}
 use Rattle.p2.specs.declared.Received.{Received}
-use Rattle.p2.specs.Promise.{Answered}
-use Rattle.image.specs.declared.ImageRead.{ImageRead}
 use Rattle.image.specs.declared.Status.the-variants.{Whole}
-use Rattle.image.specs.Image.{imageSize, imageOf, meterOf, statusOf, readImage}
+use Rattle.image.specs.Image.{imageSize, imageOf, meterOf, statusOf}
 use Rattle.capi.specs.Refusals.{ownRefusal, newRefusal, newSized}
 
--- the image of this very meter is read
-abbrev pub whole : Meter → ImageRead
-whole m = record { status = Whole; meter = m }
+-- the one image of what a meter holds: zeros wherever it holds nothing
+abbrev pub imageFor : Model → List ℕ
+imageFor m = imageOf (canonical m)
+
+-- what a call on the meter in the buffer leads to
+abbrev pub after : Call → List ℕ → Model
+after c s = step p2 c (view (meterOf s)) .next
+
+-- what a call hands back: its number, how many bytes go out, the meter in the buffer, and the reply room before and after
+abbrev pub handedBack : (n k : ℕ) → (e before after : List ℕ) → Handed Meter view
+handedBack n k e l o = record { refusal = n; count = k; meter = meterOf e; before = l; after = o }
+
+-- a buffer that was written: just this is held, in its one image, and that is what the next call reads
+pub record Stores (m : Model) (e : List ℕ) : Type 0 where
+  pub bytes : e ≡ imageFor m
+  pub status : statusOf e ≡ Whole
+  pub holds : view (meterOf e) ≡ m
 
 -- A new meter.
 
--- one with this name and these titles, and its image
+-- one with this name and these titles
 pub record Made (device title verification han : List ℕ) (e : List ℕ) (n : ℕ) : Type 0 where
-  pub meter : Meter
-  pub new : view meter ≡ newMeter device title verification han
   pub number : n ≡ 0
-  pub written : e ≡ imageOf meter
-  pub read : readImage e ≡ whole meter
+  pub stores : Stores (newMeter device title verification han) e
 
 pub record NewCalled (device title verification han : List ℕ) (s e : List ℕ) (n : ℕ) : Type 0 where
   pub refused :
@@ -47,14 +58,11 @@ pub record NewCalled (device title verification han : List ℕ) (s e : List ℕ)
 
 -- Owner's calls.
 
--- the call on the meter in the buffer: its promise, its number, the image of the meter that it hands back where it is
--- accepted; and this very meter is what the next call reads
+-- the call on the meter in the buffer: the model's promise; where it is accepted, every byte; and an image is there again
 pub record Owns (c : Call) (s e : List ℕ) (n : ℕ) : Type 0 where
-  pub result : Changed
-  pub owned : Owned c (meterOf s) result
-  pub number : n ≡ result .refusal
-  pub written : n ≡ 0 → e ≡ imageOf (result .meter)
-  pub read : readImage e ≡ whole (result .meter)
+  pub promised : Promised Meter view p2 c (meterOf s) (handedBack n 0 e [] [])
+  pub bytes : n ≡ 0 → e ≡ imageFor (after c s)
+  pub again : statusOf e ≡ Whole
 
 -- `good`: the arguments are taken
 pub record OwnerCalled (good : Bool) (c : Call) (s e : List ℕ) (n : ℕ) : Type 0 where
@@ -62,33 +70,24 @@ pub record OwnerCalled (good : Bool) (c : Call) (s e : List ℕ) (n : ℕ) : Typ
   pub called : ownRefusal (statusOf s) good ≡ 0 → Owns c s e n
   pub kept : (n ≡ 0 → ⊥) → e ≡ s
 
--- power-up, which leaves nothing of any association in the buffer
-pub record PowerCalled (s e : List ℕ) (n : ℕ) : Type 0 where
-  pub owner : OwnerCalled true powerUp s e n
-  pub wiped : n ≡ 0 → (c : Client) → Wiped c (meterOf e .line)
-
--- the end of an owner's call, in a buffer of the right length: the meter handed back is written where the call is accepted
+-- the end of an owner's call, in a buffer of the right length: the meter handed back is stored where the call is accepted
 pub record Ends (r : Changed) (s e : List ℕ) (n : ℕ) : Type 0 where
   pub number : n ≡ r .refusal
-  pub written : length s ≡ imageSize → n ≡ 0 → (e ≡ imageOf (r .meter)) × (readImage e ≡ whole (r .meter))
+  pub stored : length s ≡ imageSize → sound (view (r .meter)) ≡ true → n ≡ 0 → Stores (view (r .meter)) e
   pub kept : (n ≡ 0 → ⊥) → e ≡ s
 
 -- The frame call: the reply room held l and holds o afterwards, and k bytes of it go out.
 
--- the refusals of document 01 after which the meter is unchanged are `keeping`
+-- likewise; the refusals of document 01 after which the meter is unchanged are `keeping`
 pub record Receives (a : Lent) (s e l o : List ℕ) (k n : ℕ) : Type 0 where
-  pub result : Received
-  pub answered : Answered a (meterOf s) l o result
-  pub number : n ≡ result .refusal
-  pub count : k ≡ result .count
-  pub written : listed n keeping ≡ false → e ≡ imageOf (result .meter)
-  pub read : readImage e ≡ whole (result .meter)
+  pub promised : Promised Meter view p2 (frame a) (meterOf s) (handedBack n k e l o)
+  pub bytes : listed n keeping ≡ false → e ≡ imageFor (after (frame a) s)
+  pub again : statusOf e ≡ Whole
 
 -- the end of a frame call, likewise
 pub record FrameEnds (r : Received) (s e : List ℕ) (n : ℕ) : Type 0 where
   pub number : n ≡ r .refusal
-  pub written :
-      length s ≡ imageSize → listed n keeping ≡ false → (e ≡ imageOf (r .meter)) × (readImage e ≡ whole (r .meter))
+  pub stored : length s ≡ imageSize → sound (view (r .meter)) ≡ true → listed n keeping ≡ false → Stores (view (r .meter)) e
   pub kept : listed n keeping ≡ true → e ≡ s
 
 -- the library itself refuses: nothing goes out, nothing changes

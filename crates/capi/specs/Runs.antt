@@ -14,11 +14,7 @@ use Rattle.protocol.specs.Decide.{p2}
 use Rattle.image.specs.declared.Status.the-variants.{Whole}
 use Rattle.image.specs.Image.{meterOf, statusOf}
 use Rattle.capi.specs.Refusals.{wrongArgument}
-use Rattle.capi.specs.Promises.{OwnerCalled, FrameCalled}
-
--- what a call hands back: its number, how many bytes go out, the meter in the buffer, and the reply room before and after
-abbrev pub handedBack : (n k : ℕ) → (e before after : List ℕ) → Handed Meter view
-handedBack n k e l o = record { refusal = n; count = k; meter = meterOf e; before = l; after = o }
+use Rattle.capi.specs.Promises.{handedBack, OwnerCalled, FrameCalled}
 
 -- a call of the library, from what the buffer held to what it holds
 pub data Library (s e : List ℕ) : Call → Handed Meter view → Type 0 where

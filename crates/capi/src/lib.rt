@@ -1,7 +1,7 @@
 // Birlimock for firmware in C and Rust: every call works on a state buffer that holds the image of a meter, and answers a
 // number. The library's own refusals come first: of the state buffer, then of an argument. Then the call of that name is made
-// on the meter in the buffer, and the meter that comes back is written there: by an owner's call where it is accepted, by a frame call
-// unless its refusal leaves the meter unchanged. Else nothing is written.
+// on the meter in the buffer, and the meter that comes back is written there, with zeros wherever it holds nothing: by an owner's
+// call where it is accepted, by a frame call unless its refusal leaves the meter unchanged. Else nothing is written.
 // include/birlimock.h has the calls as C sees them.
 mod lent;
 mod own;
@@ -14,7 +14,7 @@ use meter::Changed;
 use meter::Meter;
 use own::WRONG_STATE_SIZE;
 use own::argument_refusal;
-use own::own_refusal;
+use own::refusal_of;
 use p2::Received;
 ghost use mathlib.Core.Path.{_≡_};
 ghost use mathlib.Core.Bool.{true};
@@ -26,7 +26,7 @@ ghost use Rattle.image.specs.Lists.{listIn, wholeList};
 ghost use Rattle.image.specs.Image.{imageSize};
 ghost use Rattle.p2.specs.Promise.{lent};
 ghost use Rattle.capi.specs.Refusals.{isFlag, sized};
-ghost use Rattle.capi.specs.Promises.{Ends, FrameCalled, FrameEnds, NewCalled, OwnerCalled, PowerCalled};
+ghost use Rattle.capi.specs.Promises.{Ends, FrameCalled, FrameEnds, NewCalled, OwnerCalled};
 
 // How many bytes a state buffer has.
 #[no_mangle]
@@ -60,7 +60,7 @@ pub extern "C" fn birlimock_new(
         lent::eight_of(v_title),
         lent::eight_of(h_title),
     );
-    image::write_image(meter, state);
+    image::write_image(meter.cleared(), state);
     0
 }
 
@@ -69,15 +69,13 @@ pub extern "C" fn birlimock_new(
 pub extern "C" fn birlimock_give_registers(state: &mut [u8], registers: &[u8]) -> u8
     ensures { λ r. ⌜ OwnerCalled (wholeList registerPart (now (registers .entry))) (Call.giveRegisters (listIn registerPart (now (registers .entry)))) (now (state .entry)) (now (state .exit)) r ⌝ }
 {
-    let read = image::read_image(state);
-    let status = read.status;
-    let n = own_refusal(status, image::are_registers(registers));
+    let n = refusal_of(state, image::are_registers(registers));
     if n != 0 {
         return n;
     }
     let items = image::registers_in(registers);
     let count = registers.len() / REGISTER;
-    let meter = read.meter;
+    let meter = image::meter_in(state);
     let changed = meter.give_registers(items, count);
     end(changed, state)
 }
@@ -87,13 +85,11 @@ pub extern "C" fn birlimock_give_registers(state: &mut [u8], registers: &[u8]) -
 pub extern "C" fn birlimock_set_value(state: &mut [u8], name: &[u8], value: u32) -> u8
     ensures { λ r. ⌜ OwnerCalled (sized 6 (now (name .entry))) (Call.setValue (record { bytes = now (name .entry) }) value) (now (state .entry)) (now (state .exit)) r ⌝ }
 {
-    let read = image::read_image(state);
-    let status = read.status;
-    let n = own_refusal(status, name.len() == NAME);
+    let n = refusal_of(state, name.len() == NAME);
     if n != 0 {
         return n;
     }
-    let meter = read.meter;
+    let meter = image::meter_in(state);
     let changed = meter.set_value(lent::name_of(name), value);
     end(changed, state)
 }
@@ -103,15 +99,13 @@ pub extern "C" fn birlimock_set_value(state: &mut [u8], name: &[u8], value: u32)
 pub extern "C" fn birlimock_set_columns(state: &mut [u8], names: &[u8]) -> u8
     ensures { λ r. ⌜ OwnerCalled (wholeList namePart (now (names .entry))) (Call.setColumns (listIn namePart (now (names .entry)))) (now (state .entry)) (now (state .exit)) r ⌝ }
 {
-    let read = image::read_image(state);
-    let status = read.status;
-    let n = own_refusal(status, image::are_names(names));
+    let n = refusal_of(state, image::are_names(names));
     if n != 0 {
         return n;
     }
     let items = image::names_in(names);
     let count = names.len() / NAME;
-    let meter = read.meter;
+    let meter = image::meter_in(state);
     let changed = meter.set_columns(items, count);
     end(changed, state)
 }
@@ -121,13 +115,11 @@ pub extern "C" fn birlimock_set_columns(state: &mut [u8], names: &[u8]) -> u8
 pub extern "C" fn birlimock_set_period(state: &mut [u8], period: u32) -> u8
     ensures { λ r. ⌜ OwnerCalled true (Call.setPeriod period) (now (state .entry)) (now (state .exit)) r ⌝ }
 {
-    let read = image::read_image(state);
-    let status = read.status;
-    let n = own_refusal(status, true);
+    let n = refusal_of(state, true);
     if n != 0 {
         return n;
     }
-    let meter = read.meter;
+    let meter = image::meter_in(state);
     let changed = meter.set_period(period);
     end(changed, state)
 }
@@ -137,13 +129,11 @@ pub extern "C" fn birlimock_set_period(state: &mut [u8], period: u32) -> u8
 pub extern "C" fn birlimock_tick(state: &mut [u8], clock: &[u8]) -> u8
     ensures { λ r. ⌜ OwnerCalled (sized 12 (now (clock .entry))) (Call.tick (record { bytes = now (clock .entry) })) (now (state .entry)) (now (state .exit)) r ⌝ }
 {
-    let read = image::read_image(state);
-    let status = read.status;
-    let n = own_refusal(status, clock.len() == CLOCK);
+    let n = refusal_of(state, clock.len() == CLOCK);
     if n != 0 {
         return n;
     }
-    let meter = read.meter;
+    let meter = image::meter_in(state);
     let changed = meter.tick(lent::clock_of(clock));
     end(changed, state)
 }
@@ -153,13 +143,11 @@ pub extern "C" fn birlimock_tick(state: &mut [u8], clock: &[u8]) -> u8
 pub extern "C" fn birlimock_set_p5(state: &mut [u8], held: u32) -> u8
     ensures { λ r. ⌜ OwnerCalled (isFlag held) (Call.setP5 (eqb held 1)) (now (state .entry)) (now (state .exit)) r ⌝ }
 {
-    let read = image::read_image(state);
-    let status = read.status;
-    let n = own_refusal(status, held < 2);
+    let n = refusal_of(state, held < 2);
     if n != 0 {
         return n;
     }
-    let meter = read.meter;
+    let meter = image::meter_in(state);
     let changed = meter.set_p5(held == 1);
     end(changed, state)
 }
@@ -167,15 +155,13 @@ pub extern "C" fn birlimock_set_p5(state: &mut [u8], held: u32) -> u8
 // Power-up. Refusals 101 to 103 and 3.
 #[no_mangle]
 pub extern "C" fn birlimock_power_up(state: &mut [u8]) -> u8
-    ensures { λ r. ⌜ PowerCalled (now (state .entry)) (now (state .exit)) r ⌝ }
+    ensures { λ r. ⌜ OwnerCalled true Call.powerUp (now (state .entry)) (now (state .exit)) r ⌝ }
 {
-    let read = image::read_image(state);
-    let status = read.status;
-    let n = own_refusal(status, true);
+    let n = refusal_of(state, true);
     if n != 0 {
         return n;
     }
-    let meter = read.meter;
+    let meter = image::meter_in(state);
     let changed = meter.power_up();
     end(changed, state)
 }
@@ -194,13 +180,11 @@ pub extern "C" fn birlimock_receive(
     ensures { λ r. ⌜ FrameCalled (lent (length (now (reply .entry))) (now (guk .entry)) (now (ak .entry)) (now (challenge .entry)) (now (frame .entry))) (now (state .entry)) (now (state .exit)) (now (reply .entry)) (now (reply .exit)) (now (sent .exit)) r ⌝ }
 {
     *sent = 0;
-    let read = image::read_image(state);
-    let status = read.status;
-    let n = own_refusal(status, true);
+    let n = refusal_of(state, true);
     if n != 0 {
         return n;
     }
-    let meter = read.meter;
+    let meter = image::meter_in(state);
     let received = p2::receive(meter, frame, guk, ak, challenge, reply);
     *sent = received.count;
     frame_end(received, state)
@@ -215,7 +199,7 @@ fn end(changed: Changed, state: &mut [u8]) -> u8
         return n;
     }
     let meter = changed.meter;
-    image::write_image(meter, state);
+    image::write_image(meter.cleared(), state);
     0
 }
 
@@ -228,6 +212,6 @@ fn frame_end(received: Received, state: &mut [u8]) -> u8
         return n;
     }
     let meter = received.meter;
-    image::write_image(meter, state);
+    image::write_image(meter.cleared(), state);
     n
 }

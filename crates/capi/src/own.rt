@@ -3,6 +3,7 @@ use image::Status;
 ghost use mathlib.Core.Path.{_≡_};
 ghost use Rattle.model.specs.Periods.{listed};
 ghost use Rattle.protocol.specs.Outcomes.{keeping};
+ghost use Rattle.image.specs.Image.{statusOf};
 ghost use Rattle.capi.specs.Refusals.{argumentRefusal, ownRefusal};
 
 pub const WRONG_STATE_SIZE: u8 = 101;
@@ -13,8 +14,15 @@ const NO_STATE: u8 = 103;
 
 const WRONG_ARGUMENT: u8 = 104;
 
-// By what reading the state buffer came to, and then by whether the arguments are taken; 0 where the call is to be made.
-pub fn own_refusal(status: Status, good: bool) -> u8
+// Of a call on this state buffer; 0 where the call is to be made.
+pub fn refusal_of(state: &[u8], good: bool) -> u8
+    ensures { λ r. ⌜ r ≡ ownRefusal (statusOf (now (state .entry))) good ⌝ }
+{
+    own_refusal(image::status_of(state), good)
+}
+
+// By what reading the state buffer came to, and then by whether the arguments are taken.
+fn own_refusal(status: Status, good: bool) -> u8
     ensures { λ r. ⌜ r ≡ ownRefusal status good ⌝ }
 {
     match status {

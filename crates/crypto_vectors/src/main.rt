@@ -4,6 +4,7 @@
 ghost use mathlib.Core.Path.{_≡_};
 ghost use Prim.Native.Nat.{_≤_};
 ghost use lib.ListN.{length};
+use gcm::ReadyKey;
 use libc::STDOUT_FILENO;
 
 fn main() {
@@ -151,7 +152,7 @@ fn cipher_case(name: &[u8], key: &[u8], input: &[u8], output: &[u8]) {
 
 // A text sealed and opened.
 fn gcm_case(name: &[u8], key: &[u8], nonce: &[u8], aad: &[u8], text: &[u8], c: &[u8], t: &[u8]) {
-    let k = gcm::first_16(key);
+    let k = gcm::ready(gcm::first_16(key));
     let v = gcm::first_12(nonce);
     sealed(name, k, v, aad, text, c, t);
     changed(name, k, v, aad, c, t);
@@ -159,7 +160,7 @@ fn gcm_case(name: &[u8], key: &[u8], nonce: &[u8], aad: &[u8], text: &[u8], c: &
 
 // A tag with no text.
 fn gmac_case(name: &[u8], key: &[u8], nonce: &[u8], aad: &[u8], t: &[u8]) {
-    let k = gcm::first_16(key);
+    let k = gcm::ready(gcm::first_16(key));
     let v = gcm::first_12(nonce);
     let r = gcm::gmac(k, v, aad);
     report(name, b"made", &r, t);
@@ -169,7 +170,7 @@ fn gmac_case(name: &[u8], key: &[u8], nonce: &[u8], aad: &[u8], t: &[u8]) {
 
 // The text laid out from place 5 of a buffer on and sealed there: cipher text and tag, and the bytes around them. It is then
 // opened from the middle of that buffer.
-fn sealed(name: &[u8], k: [u8; 16], v: [u8; 12], aad: &[u8], text: &[u8], c: &[u8], t: &[u8]) {
+fn sealed(name: &[u8], k: ReadyKey, v: [u8; 12], aad: &[u8], text: &[u8], c: &[u8], t: &[u8]) {
     let mut buf = room();
     let n = text.len();
     if 64 < n {
@@ -184,7 +185,7 @@ fn sealed(name: &[u8], k: [u8; 16], v: [u8; 12], aad: &[u8], text: &[u8], c: &[u
     opened(name, k, v, aad, text, &buf);
 }
 
-fn laid_out(k: [u8; 16], v: [u8; 12], aad: &[u8], text: &[u8], buf: &mut [u8]) -> bool {
+fn laid_out(k: ReadyKey, v: [u8; 12], aad: &[u8], text: &[u8], buf: &mut [u8]) -> bool {
     let n = text.len();
     if buf.len() < 128 {
         return false;
@@ -198,7 +199,7 @@ fn laid_out(k: [u8; 16], v: [u8; 12], aad: &[u8], text: &[u8], buf: &mut [u8]) -
 }
 
 // A cipher text from place 5 of a frame on, and the tag behind it, opened into a buffer of its own.
-fn opened(name: &[u8], k: [u8; 16], v: [u8; 12], aad: &[u8], text: &[u8], f: &[u8]) {
+fn opened(name: &[u8], k: ReadyKey, v: [u8; 12], aad: &[u8], text: &[u8], f: &[u8]) {
     let mut out = room();
     let n = text.len();
     if 64 < n {
@@ -217,7 +218,7 @@ fn opened(name: &[u8], k: [u8; 16], v: [u8; 12], aad: &[u8], text: &[u8], f: &[u
 }
 
 // One bit changed in the tag, in the text and in the associated data.
-fn changed(name: &[u8], k: [u8; 16], v: [u8; 12], aad: &[u8], c: &[u8], t: &[u8]) {
+fn changed(name: &[u8], k: ReadyKey, v: [u8; 12], aad: &[u8], c: &[u8], t: &[u8]) {
     let mut b = room();
     let m = flipped(t, &mut b);
     if 0 < m {
@@ -262,7 +263,7 @@ fn flipped(s: &[u8], b: &mut [u8]) -> usize
 }
 
 // An opening that is refused and leaves its buffer as it was.
-fn refused(name: &[u8], what: &[u8], k: [u8; 16], v: [u8; 12], aad: &[u8], c: &[u8], t: &[u8]) {
+fn refused(name: &[u8], what: &[u8], k: ReadyKey, v: [u8; 12], aad: &[u8], c: &[u8], t: &[u8]) {
     let mut out = room();
     let was = room();
     if gcm::open_into(k, v, aad, c, t, &mut out) {

@@ -4,6 +4,7 @@
 // matter: an answer without rows, or without a code, is told by a line, and the visit goes on.
 use crate::frames;
 use crate::frames::Bytes;
+use crate::frames::ClientKeys;
 use crate::plug;
 use crate::text::after;
 use crate::text::first;
@@ -12,8 +13,8 @@ use crate::text::note;
 use crate::text::print;
 use crate::text::right;
 use envelope::Admission;
-use envelope::Keys;
 use envelope::Opening;
+use envelope::ReadyKeys;
 use model::Counters;
 use wire::End;
 use wire::Field;
@@ -186,7 +187,7 @@ fn challenged(talk: Talk, apdu: &[u8]) -> Talk {
     let title = a.title;
     let mut text = [0u8; 765];
     let Opening::Opens { counter, size } = envelope::open_envelope(
-        keys(),
+        frames::around_association(keys()),
         title,
         0x28,
         after(apdu, a.envelope),
@@ -263,7 +264,8 @@ fn judged(talk: Talk, reply: &[u8]) -> Talk {
     let pair = talk.pair;
     let title = talk.title;
     let mut text = [0u8; 765];
-    let h = unsealed(talk, 0xCF, reply, &mut text);
+    let keys = frames::around_association(keys());
+    let h = unsealed(talk, keys, 0xCF, reply, &mut text);
     let t = h.talk;
     if !t.right {
         return t;
@@ -273,7 +275,7 @@ fn judged(talk: Talk, reply: &[u8]) -> Talk {
         return stopped(t, b"the meter does not take its answer");
     };
     if envelope::is_right_proof(
-        keys(),
+        keys,
         title,
         frames::CHALLENGE,
         pair,
@@ -291,7 +293,8 @@ fn judged(talk: Talk, reply: &[u8]) -> Talk {
 // The text of the answer with the rows is kept.
 fn filled(talk: Talk, reply: &[u8]) -> Talk {
     let mut text = [0u8; 765];
-    let h = unsealed(talk, 0xD4, reply, &mut text);
+    let keys = frames::around_requests(keys());
+    let h = unsealed(talk, keys, 0xD4, reply, &mut text);
     let mut t = h.talk;
     t.text = text;
     t.size = h.size;
@@ -301,7 +304,8 @@ fn filled(talk: Talk, reply: &[u8]) -> Talk {
 // The answer about the register that the home display has no right to.
 fn denied(talk: Talk, reply: &[u8]) -> Talk {
     let mut text = [0u8; 765];
-    let h = unsealed(talk, 0xD4, reply, &mut text);
+    let keys = frames::around_requests(keys());
+    let h = unsealed(talk, keys, 0xD4, reply, &mut text);
     let t = h.talk;
     if t.right {
         print_code(text_of(&text, h.size));
@@ -326,12 +330,12 @@ fn print_code(answer: &[u8]) {
 }
 
 // A sealed answer of the meter: it opens, and its counter is a new one.
-fn unsealed(talk: Talk, tag: u8, reply: &[u8], text: &mut [u8; 765]) -> Heard {
+fn unsealed(talk: Talk, keys: ReadyKeys, tag: u8, reply: &[u8], text: &mut [u8; 765]) -> Heard {
     let title = talk.title;
     let pair = talk.pair;
     let apdu = frames::apdu_in(reply);
     let Admission::Admitted { counter, size } = envelope::admit_envelope(
-        keys(),
+        keys,
         title,
         tag,
         pair,
@@ -359,8 +363,8 @@ fn text_of(room: &[u8; 765], size: usize) -> &[u8] {
     first(room, size)
 }
 
-fn keys() -> Keys {
-    Keys {
+fn keys() -> ClientKeys {
+    ClientKeys {
         guk: plug::GUK,
         ak: plug::AK,
         dedicated: *b"\x00\x11\x22\x33\x44\x55\x66\x77\x88\x99\xAA\xBB\xCC\xDD\xEE\xFF",

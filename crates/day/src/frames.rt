@@ -1,7 +1,7 @@
 // The frames that a client sends, made as document 01 lays them out, and the APDU of a frame that it received. Sender and
 // receiver are those of the home display throughout: the stranger sends in its name.
 use crate::text::first;
-use envelope::Keys;
+use envelope::ReadyKeys;
 use hdlc::Head;
 
 // The title of the home display: "H" of document 01.
@@ -12,6 +12,13 @@ pub const CHALLENGE: [u8; 8] = *b"\x4B\x35\x36\x69\x56\x61\x67\x59";
 
 // GET of the rows: attribute 2 of the profile, 0.0.21.0.6.255.
 pub const ROWS: [u8; 13] = *b"\xC0\x01\xC1\x00\x07\x00\x00\x15\x00\x06\xFF\x02\x00";
+
+// The keys that a client has: "GUK", "AK" and the dedicated key of its association.
+pub struct ClientKeys {
+    pub guk: [u8; 16],
+    pub ak: [u8; 16],
+    pub dedicated: [u8; 16],
+}
 
 // Up to 128 bytes, of which the first `count` are meant.
 pub struct Bytes {
@@ -49,11 +56,11 @@ pub fn data(apdu: Bytes) -> Bytes {
 }
 
 // The AARQ: it asks for an association, and has the dedicated key in its envelope.
-pub fn aarq(keys: Keys, counter: u32) -> Bytes {
+pub fn aarq(keys: ClientKeys, counter: u32) -> Bytes {
     let key = keys.dedicated;
     let a = with(with(none(), b"\x01\x01\x10"), &key);
     let b = with(a, b"\x00\x00\x06\x5F\x1F\x04\x00\x00\x00\x15\x03\x00");
-    let e = sealed(keys, 0x21, counter, b);
+    let e = sealed(around_association(keys), 0x21, counter, b);
     let c = with(
         none(),
         b"\x60\x66\xA1\x09\x06\x07\x60\x85\x74\x05\x08\x01\x03\xA6\x0A\x04\x08",
@@ -67,19 +74,34 @@ pub fn aarq(keys: Keys, counter: u32) -> Bytes {
 }
 
 // The answer to the meter's challenge: the proof under one counter, in an envelope under the next.
-pub fn proof(keys: Keys, challenge: [u8; 8], inner: u32, outer: u32) -> Bytes {
+pub fn proof(keys: ClientKeys, challenge: [u8; 8], inner: u32, outer: u32) -> Bytes {
     let mut value = [0u8; 19];
-    envelope::put_proof(&mut value, 0, keys, TITLE, challenge, inner);
+    let ready = around_association(keys);
+    envelope::put_proof(&mut value, 0, ready, TITLE, challenge, inner);
     let action = with(
         none(),
         b"\xC3\x01\xC1\x00\x0F\x00\x00\x28\x00\x04\xFF\x01\x01",
     );
-    data(sealed(keys, 0xCB, outer, with(action, &value)))
+    data(sealed(ready, 0xCB, outer, with(action, &value)))
 }
 
 // A GET in its envelope.
-pub fn get(keys: Keys, counter: u32, request: &[u8]) -> Bytes {
-    data(sealed(keys, 0xD0, counter, with(none(), request)))
+pub fn get(keys: ClientKeys, counter: u32, request: &[u8]) -> Bytes {
+    data(sealed(around_requests(keys), 0xD0, counter, with(none(), request)))
+}
+
+// The keys around the messages of an association, made ready.
+pub fn around_association(keys: ClientKeys) -> ReadyKeys {
+    let guk = keys.guk;
+    let ak = keys.ak;
+    envelope::ready_keys(guk, ak)
+}
+
+// The keys around requests and their answers, made ready.
+pub fn around_requests(keys: ClientKeys) -> ReadyKeys {
+    let dedicated = keys.dedicated;
+    let ak = keys.ak;
+    envelope::ready_keys(dedicated, ak)
 }
 
 // The release of an association, which is not sealed.
@@ -93,13 +115,13 @@ pub fn plain(apdu: &[u8]) -> Bytes {
 }
 
 // The envelope around a text, from the home display.
-fn sealed(keys: Keys, tag: u8, counter: u32, text: Bytes) -> Bytes {
+fn sealed(keys: ReadyKeys, tag: u8, counter: u32, text: Bytes) -> Bytes {
     let items = text.items;
     let part = first(&items, text.count);
     enclosed(keys, tag, counter, part)
 }
 
-fn enclosed(keys: Keys, tag: u8, counter: u32, text: &[u8]) -> Bytes {
+fn enclosed(keys: ReadyKeys, tag: u8, counter: u32, text: &[u8]) -> Bytes {
     let n = text.len();
     if 100 < n {
         return none();

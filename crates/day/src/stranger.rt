@@ -3,9 +3,9 @@
 use crate::client::Talk;
 use crate::frames;
 use crate::frames::Bytes;
+use crate::frames::ClientKeys;
 use crate::frames::ROWS;
 use crate::text::note;
-use envelope::Keys;
 
 // The step in which the recorded proof is sent, and the number by which a wrong one is refused.
 const ENTRY: u8 = 14;
@@ -43,8 +43,8 @@ pub fn explain(step: u8, refusal: u8) {
 }
 
 // Any keys but the right ones.
-fn keys() -> Keys {
-    Keys {
+fn keys() -> ClientKeys {
+    ClientKeys {
         guk: [0x55; 16],
         ak: [0x55; 16],
         dedicated: [0x55; 16],

@@ -9,8 +9,7 @@ use Rattle.wire.specs.Numbers.{highFirst}
 use Rattle.wire.specs.Reading.{thenAt, thenField, expected, numberAt}
 use Rattle.gcm.specs.Gcm.{gmac, authentic}
 use Rattle.counters.specs.Window.{innerAllowed}
-use Rattle.envelope.specs.Layout.{nonce}
-use Rattle.envelope.specs.declared.Keys.{Keys}
+use Rattle.envelope.specs.Layout.{Keys, nonce}
 
 -- "10", the security control byte of a proof: authenticated only
 abbrev pub proofControl : ℕ
@@ -27,7 +26,7 @@ proofHead = 0x09 ∷ 0x11 ∷ proofControl ∷ []
 -- the proof of the sender with this title over the other side's challenge, as a value
 unfoldable pub proofValue : Keys → (title challenge : List ℕ) → (counter : ℕ) → List ℕ
 proofValue k title challenge counter =
-    proofHead ++ (highFirst 4 counter ++ gmac (k .guk) (nonce title counter) (proofData k challenge))
+    proofHead ++ (highFirst 4 counter ++ gmac (k .key) (nonce title counter) (proofData k challenge))
 
 -- how many bytes that are: kind and length, then 17
 abbrev pub proofSize : ℕ
@@ -39,4 +38,4 @@ rightProof k title challenge accepted outer v =
     thenAt (expected v 0 proofHead) false (λ a.
     thenField (numberAt 4 v a) false (λ inner b.
     innerAllowed accepted outer inner
-    && authentic (k .guk) (nonce title inner) (proofData k challenge) [] (drop b v)))
+    && authentic (k .key) (nonce title inner) (proofData k challenge) [] (drop b v)))

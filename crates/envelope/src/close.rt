@@ -1,15 +1,14 @@
 // Closing: the text stands in the buffer behind the room for its head. The head is written before it, the text is sealed where
 // it stands, and the GCM tag is written behind it.
-use crate::Keys;
+use crate::ReadyKeys;
 use crate::material::associated_data;
-use crate::material::key_for;
 use crate::material::nonce;
 ghost use mathlib.Core.Path.{_≡_};
 ghost use Prim.Native.Nat.{_+_, _≤_};
 ghost use lib.ListN.{drop, length, take};
 ghost use Rattle.wire.specs.Wrote.{Wrote};
 ghost use Rattle.model.specs.Limits.{envelopeLength};
-ghost use Rattle.envelope.specs.Layout.{countedLength, head, headSize, sealedEnvelope};
+ghost use Rattle.envelope.specs.Layout.{countedLength, head, headSize, keysOf, sealedEnvelope};
 
 // How many bytes stand before a text of `n` bytes.
 pub fn head_size(n: usize) -> usize
@@ -23,18 +22,18 @@ pub fn head_size(n: usize) -> usize
 pub fn close_envelope(
     out: &mut [u8],
     at: usize,
-    keys: Keys,
+    keys: ReadyKeys,
     title: [u8; 8],
     tag: u8,
     counter: u32,
     n: usize,
 ) -> usize
     requires { ⌜ (countedLength n ≤ 65535) × (at + envelopeLength n ≤ length (now out)) ⌝ }
-    ensures { λ r. ⌜ Wrote (now (out .entry)) at (now (out .exit)) r (sealedEnvelope keys title tag counter (take n (drop (at + headSize n) (now (out .entry))))) ⌝ }
+    ensures { λ r. ⌜ Wrote (now (out .entry)) at (now (out .exit)) r (sealedEnvelope (keysOf keys) title tag counter (take n (drop (at + headSize n) (now (out .entry))))) ⌝ }
 {
     let start = put_head(out, at, tag, counter, n);
     let end = start + n;
-    let key = key_for(keys, tag);
+    let key = keys.key;
     let v = nonce(title, counter);
     let data = associated_data(keys);
     let t = gcm::seal(key, v, &data, &mut out[start..end]);

@@ -9,17 +9,18 @@ pub use challenge::is_right_proof;
 pub use challenge::put_proof;
 pub use close::close_envelope;
 pub use close::head_size;
+use gcm::ReadyKey;
+pub use material::ready_keys;
 pub use open::admit_envelope;
 pub use open::open_envelope;
 
 // The longest APDU that a frame brings: a room for any plain text has this size.
 pub const LONGEST_APDU: usize = 765;
 
-// The keys of a client: "GUK", "AK" and the dedicated key of its association.
-pub struct Keys {
-    pub guk: [u8; 16],
+// The keys that envelopes go under, made ready: "GUK" or the dedicated key of the association, and "AK".
+pub struct ReadyKeys {
+    pub key: ReadyKey,
     pub ak: [u8; 16],
-    pub dedicated: [u8; 16],
 }
 
 // What an APDU comes to: no envelope, or not one sealed under these keys; or the counter and the size of the plain text.

@@ -1,18 +1,15 @@
-// What GCM is given besides the text: the key of a tag, the nonce, the associated data.
-use crate::Keys;
+// What GCM is given besides the text: the keys, the nonce, the associated data.
+use crate::ReadyKeys;
 ghost use mathlib.Core.Path.{_≡_};
-ghost use Rattle.envelope.specs.Layout.{associatedData, keyFor, «nonce» as nonceOf};
+ghost use Rattle.envelope.specs.Layout.{associatedData, keysFrom, keysOf, «nonce» as nonceOf};
 ghost use Rattle.envelope.specs.Challenge.{proofData};
 
-// The key of a tag: dedicated requests, dedicated answers, and all else.
-pub fn key_for(keys: Keys, tag: u8) -> [u8; 16]
-    ensures { λ r. ⌜ r ≡ keyFor keys tag ⌝ }
+// Makes keys ready.
+pub fn ready_keys(key: [u8; 16], ak: [u8; 16]) -> ReadyKeys
+    ensures { λ r. ⌜ keysOf r ≡ keysFrom key ak ⌝ }
 {
-    match tag {
-        0xD0 | 0xD3 => keys.dedicated,
-        0xD4 | 0xD7 => keys.dedicated,
-        _ => keys.guk,
-    }
+    let key = gcm::ready(key);
+    ReadyKeys { key, ak }
 }
 
 // The sender's title and the counter.
@@ -26,8 +23,8 @@ pub fn nonce(title: [u8; 8], counter: u32) -> [u8; 12]
 }
 
 // The associated data of an envelope: 30 and AK.
-pub fn associated_data(keys: Keys) -> [u8; 17]
-    ensures { λ r. ⌜ r ≡ associatedData keys ⌝ }
+pub fn associated_data(keys: ReadyKeys) -> [u8; 17]
+    ensures { λ r. ⌜ r ≡ associatedData (keysOf keys) ⌝ }
 {
     let ak = keys.ak;
     let mut data = [0u8; 17];
@@ -37,8 +34,8 @@ pub fn associated_data(keys: Keys) -> [u8; 17]
 }
 
 // The associated data of a proof: 10, AK and the challenge.
-pub fn proof_data(keys: Keys, challenge: [u8; 8]) -> [u8; 25]
-    ensures { λ r. ⌜ r ≡ proofData keys challenge ⌝ }
+pub fn proof_data(keys: ReadyKeys, challenge: [u8; 8]) -> [u8; 25]
+    ensures { λ r. ⌜ r ≡ proofData (keysOf keys) challenge ⌝ }
 {
     let ak = keys.ak;
     let mut data = [0u8; 25];

@@ -1,29 +1,29 @@
 // Opening: the shape, then the GCM tag, then, where it is asked for, the counter. The cipher text stays where it was received:
 // GCM is lent that part of the APDU itself. Answers for every slice; nothing here has a `requires`.
 use crate::Admission;
-use crate::Keys;
 use crate::LONGEST_APDU;
 use crate::Opening;
+use crate::ReadyKeys;
 use crate::Shape;
 use crate::material::associated_data;
-use crate::material::key_for;
 use crate::material::nonce;
 use model::Counters;
 use wire::End;
 use wire::Field;
 ghost use mathlib.Core.Path.{_≡_};
+ghost use Rattle.envelope.specs.Layout.{keysOf};
 ghost use Rattle.envelope.specs.Opening.{AdmittedInto, opened, OpenedInto, shapeFrom, shapeOf};
 
 // Opens the APDU, which is to have this tag, into `out`; where it does not open, `out` stays as it is. An APDU has no more
 // bytes than `out`, and its text has fewer: no text that opens is too long for it.
 pub fn open_envelope(
-    keys: Keys,
+    keys: ReadyKeys,
     title: [u8; 8],
     tag: u8,
     apdu: &[u8],
     out: &mut [u8; LONGEST_APDU],
 ) -> Opening
-    ensures { λ r. ⌜ OpenedInto (opened keys title tag (now (apdu .entry))) (now (out .entry)) (now (out .exit)) r ⌝ }
+    ensures { λ r. ⌜ OpenedInto (opened (keysOf keys) title tag (now (apdu .entry))) (now (out .entry)) (now (out .exit)) r ⌝ }
 {
     let Shape::Shaped {
         counter,
@@ -33,7 +33,7 @@ pub fn open_envelope(
     else {
         return Opening::Fails;
     };
-    let key = key_for(keys, tag);
+    let key = keys.key;
     let n = nonce(title, counter);
     let data = associated_data(keys);
     if gcm::open_into(key, n, &data, &apdu[text..end], &apdu[end..], out) {
@@ -47,14 +47,14 @@ pub fn open_envelope(
 
 // The same, and then the counter held against the window of the pair.
 pub fn admit_envelope(
-    keys: Keys,
+    keys: ReadyKeys,
     title: [u8; 8],
     tag: u8,
     pair: Counters,
     apdu: &[u8],
     out: &mut [u8; LONGEST_APDU],
 ) -> Admission
-    ensures { λ r. ⌜ AdmittedInto (pair .accepted) (opened keys title tag (now (apdu .entry))) (now (out .entry)) (now (out .exit)) r ⌝ }
+    ensures { λ r. ⌜ AdmittedInto (pair .accepted) (opened (keysOf keys) title tag (now (apdu .entry))) (now (out .entry)) (now (out .exit)) r ⌝ }
 {
     let Opening::Opens { counter, size } = open_envelope(keys, title, tag, apdu, out) else {
         return Admission::Unopened;

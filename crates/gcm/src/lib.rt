@@ -1,31 +1,48 @@
-// AES-128-GCM (SP 800-38D, 7.1 and 7.2): sealing where the text stands, opening into a lent buffer, GMAC. Nonces and tags have
-// twelve bytes. No function here has a `requires`.
+// AES-128-GCM (SP 800-38D, 7.1 and 7.2): sealing where the text stands, opening into a lent buffer, GMAC. A key is made ready
+// once and used as often as it is wanted. Nonces and tags have twelve bytes. No function here has a `requires`.
 ghost use mathlib.Core.Path.{_≡_};
 ghost use Rattle.ghash.specs.Product.{num};
-ghost use Rattle.gcm.specs.Gcm.{hashKey, bitLength, authenticated, tagUnder, authentic, sameBytes, «gmac» as gmacOf};
-ghost use Rattle.gcm.specs.Calls.{Sealed, SealedPart, Opened, bytesFrom};
+ghost use Rattle.gcm.specs.Gcm.{hashKey, bitLength, authenticated, tag, authentic, sameBytes, «gmac» as gmacOf, «ready» as readyOf};
+ghost use Rattle.gcm.specs.Calls.{under, keyOf, Sealed, SealedPart, Opened, bytesFrom};
+use aes::RoundKey;
 use ghash::Block;
 
-// Seals the text where it stands, and returns the tag.
-pub fn seal(key: [u8; 16], nonce: [u8; 12], aad: &[u8], text: &mut [u8]) -> [u8; 12]
-    ensures { λ r. ⌜ Sealed key nonce (now (aad .entry)) (now (text .entry)) (now (text .exit)) r ⌝ }
+// A key made ready: its key schedule, as a struct holds it, and its hash subkey.
+pub struct ReadyKey {
+    pub rounds: [RoundKey; 11],
+    pub subkey: Block,
+}
+
+// Makes a key ready.
+pub fn ready(key: [u8; 16]) -> ReadyKey
+    ensures { λ r. ⌜ keyOf r ≡ readyOf key ⌝ }
 {
-    let w = aes::expand_key(key);
+    let rounds = aes::round_keys(key);
+    let subkey = hash_key(aes::schedule(rounds));
+    ReadyKey { rounds, subkey }
+}
+
+// Seals the text where it stands, and returns the tag.
+pub fn seal(key: ReadyKey, nonce: [u8; 12], aad: &[u8], text: &mut [u8]) -> [u8; 12]
+    ensures { λ r. ⌜ Sealed (keyOf key) nonce (now (aad .entry)) (now (text .entry)) (now (text .exit)) r ⌝ }
+{
+    let h = key.subkey;
+    let w = schedule_of(key);
     gctr::encipher(w, nonce, 2, text);
-    tag_under(w, nonce, aad, text)
+    tag_under(w, h, nonce, aad, text)
 }
 
 // Seals the part of buf from a to e where it stands, and writes the tag behind it. Answers whether buf has that part and the
 // room for the tag; where not, buf stays as it is.
 pub fn seal_part(
-    key: [u8; 16],
+    key: ReadyKey,
     nonce: [u8; 12],
     aad: &[u8],
     buf: &mut [u8],
     a: usize,
     e: usize,
 ) -> bool
-    ensures { λ r. ⌜ SealedPart key nonce (now (aad .entry)) a e (now (buf .entry)) (now (buf .exit)) r ⌝ }
+    ensures { λ r. ⌜ SealedPart (keyOf key) nonce (now (aad .entry)) a e (now (buf .entry)) (now (buf .exit)) r ⌝ }
 {
     let n = buf.len();
     if e < a {
@@ -46,21 +63,22 @@ pub fn seal_part(
 // Opens the cipher text c with the tag t into out: where the tag is right and c fits into out, the plain text stands in the
 // first bytes of out; else out stays as it is. Answers which.
 pub fn open_into(
-    key: [u8; 16],
+    key: ReadyKey,
     nonce: [u8; 12],
     aad: &[u8],
     c: &[u8],
     t: &[u8],
     out: &mut [u8],
 ) -> bool
-    ensures { λ r. ⌜ Opened key nonce (now (aad .entry)) (now (c .entry)) (now (t .entry)) (now (out .entry)) (now (out .exit)) r ⌝ }
+    ensures { λ r. ⌜ Opened (keyOf key) nonce (now (aad .entry)) (now (c .entry)) (now (t .entry)) (now (out .entry)) (now (out .exit)) r ⌝ }
 {
     let n = c.len();
     if out.len() < n {
         return false;
     }
-    let w = aes::expand_key(key);
-    if matches(w, nonce, aad, c, t) {
+    let h = key.subkey;
+    let w = schedule_of(key);
+    if matches(w, h, nonce, aad, c, t) {
         bytes::copy(c, out);
         gctr::encipher(w, nonce, 2, &mut out[..n]);
         return true;
@@ -69,19 +87,21 @@ pub fn open_into(
 }
 
 // Whether t is the tag of the cipher text c.
-pub fn is_authentic(key: [u8; 16], nonce: [u8; 12], aad: &[u8], c: &[u8], t: &[u8]) -> bool
-    ensures { λ r. ⌜ r ≡ authentic key nonce (now (aad .entry)) (now (c .entry)) (now (t .entry)) ⌝ }
+pub fn is_authentic(key: ReadyKey, nonce: [u8; 12], aad: &[u8], c: &[u8], t: &[u8]) -> bool
+    ensures { λ r. ⌜ r ≡ authentic (keyOf key) nonce (now (aad .entry)) (now (c .entry)) (now (t .entry)) ⌝ }
 {
-    let w = aes::expand_key(key);
-    matches(w, nonce, aad, c, t)
+    let h = key.subkey;
+    let w = schedule_of(key);
+    matches(w, h, nonce, aad, c, t)
 }
 
 // The tag of associated data alone.
-pub fn gmac(key: [u8; 16], nonce: [u8; 12], aad: &[u8]) -> [u8; 12]
-    ensures { λ r. ⌜ r ≡ gmacOf key nonce (now (aad .entry)) ⌝ }
+pub fn gmac(key: ReadyKey, nonce: [u8; 12], aad: &[u8]) -> [u8; 12]
+    ensures { λ r. ⌜ r ≡ gmacOf (keyOf key) nonce (now (aad .entry)) ⌝ }
 {
-    let w = aes::expand_key(key);
-    tag_under(w, nonce, aad, b"")
+    let h = key.subkey;
+    let w = schedule_of(key);
+    tag_under(w, h, nonce, aad, b"")
 }
 
 // The first sixteen bytes of a slice, as for a key; a byte past the end is 0.
@@ -129,27 +149,32 @@ pub fn first_12(s: &[u8]) -> [u8; 12]
     ]
 }
 
-// The tag under a key schedule.
-fn tag_under(w: [[[u8; 4]; 4]; 11], nonce: [u8; 12], aad: &[u8], c: &[u8]) -> [u8; 12]
-    ensures { λ r. ⌜ r ≡ tagUnder w nonce (now (aad .entry)) (now (c .entry)) ⌝ }
+// The key schedule of a key that is ready.
+fn schedule_of(key: ReadyKey) -> [[[u8; 4]; 4]; 11]
+    ensures { λ r. ⌜ r ≡ keyOf key .schedule ⌝ }
 {
-    let mut s = ghash::bytes_of(authenticate(w, aad, c));
+    let k = key.rounds;
+    aes::schedule(k)
+}
+
+// The tag under a key schedule and a hash subkey.
+fn tag_under(w: [[[u8; 4]; 4]; 11], h: Block, nonce: [u8; 12], aad: &[u8], c: &[u8]) -> [u8; 12]
+    ensures { λ r. ⌜ r ≡ tag (under w (num h)) nonce (now (aad .entry)) (now (c .entry)) ⌝ }
+{
+    let mut s = ghash::bytes_of(authenticate(h, aad, c));
     gctr::encipher(w, nonce, 1, &mut s);
     first_12(&s)
 }
 
 // The hash of associated data, cipher text and their lengths.
-fn authenticate(w: [[[u8; 4]; 4]; 11], aad: &[u8], c: &[u8]) -> Block
-    ensures { λ r. ⌜ num r ≡ authenticated w (now (aad .entry)) (now (c .entry)) ⌝ }
+fn authenticate(h: Block, aad: &[u8], c: &[u8]) -> Block
+    ensures { λ r. ⌜ num r ≡ authenticated (num h) (now (aad .entry)) (now (c .entry)) ⌝ }
 {
-    let h = hash_key(w);
-    let x = ghash::hash_from(h, Block { hi: 0, lo: 0 }, aad);
-    let y = ghash::hash_from(h, x, c);
     let n = Block {
         hi: bit_length(aad),
         lo: bit_length(c),
     };
-    ghash::multiply(ghash::xor(y, n), h)
+    ghash::hash_parts(h, aad, c, n)
 }
 
 // The hash subkey.
@@ -168,11 +193,11 @@ fn bit_length(s: &[u8]) -> u64
     (s.len() as u64) % 0x2000_0000_0000_0000 * 8
 }
 
-// Whether t is the tag under a key schedule. Every byte is compared, wherever two differ.
-fn matches(w: [[[u8; 4]; 4]; 11], nonce: [u8; 12], aad: &[u8], c: &[u8], t: &[u8]) -> bool
-    ensures { λ r. ⌜ r ≡ sameBytes (tagUnder w nonce (now (aad .entry)) (now (c .entry))) (now (t .entry)) ⌝ }
+// Whether t is the tag under a key schedule and a hash subkey. Every byte is compared, wherever two differ.
+fn matches(w: [[[u8; 4]; 4]; 11], h: Block, nonce: [u8; 12], aad: &[u8], c: &[u8], t: &[u8]) -> bool
+    ensures { λ r. ⌜ r ≡ authentic (under w (num h)) nonce (now (aad .entry)) (now (c .entry)) (now (t .entry)) ⌝ }
 {
-    let r = tag_under(w, nonce, aad, c);
+    let r = tag_under(w, h, nonce, aad, c);
     is_same(r, t)
 }
 

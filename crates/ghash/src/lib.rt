@@ -1,13 +1,14 @@
 // GHASH (SP 800-38D, 6.3 and 6.4). A block is two words by value. The product goes four bits at a time, by two tables: the
-// products of the hash subkey, made once for each call, and the feedback of four shifts.
+// products of the hash subkey, made once a message, and the feedback of four shifts.
 ghost use mathlib.Core.Path.{_≡_};
+ghost use mathlib.Core.List.{[], _∷_, _++_};
 ghost use Prim.Native.Nat.{_+_, _/_, _<_, _≤_};
 ghost use lib.ListN.{getD, length};
 ghost use lib.Bits.{bitXor};
 ghost use Rattle.gf2.specs.Shift.{step, steps};
 ghost use Rattle.ghash.specs.Product.{R, product, num};
 ghost use Rattle.ghash.specs.Nibble.{turnsFrom, sumsOf, blockAt, Products, Feedback, Tables};
-ghost use Rattle.ghash.specs.Hash.{word64, block, blocks, ghashFrom, blockBytes};
+ghost use Rattle.ghash.specs.Hash.{word64, block, blocks, ghashFrom, ghash, blockBytes};
 
 // A block: its first 64 bits, and its last.
 pub struct Block {
@@ -21,33 +22,32 @@ struct ProductTable {
     lo: [u64; 16],
 }
 
-// GHASH of the blocks of s, from the block y on, under the hash subkey h.
-pub fn hash_from(h: Block, y: Block, s: &[u8]) -> Block
-    ensures { λ r. ⌜ num r ≡ ghashFrom (num h) (num y) (blocks (now (s .entry))) ⌝ }
+// GHASH of the blocks of a, of those of c and of the block n, under the hash subkey h.
+pub fn hash_parts(h: Block, a: &[u8], c: &[u8], n: Block) -> Block
+    ensures { λ r. ⌜ num r ≡ ghash (num h) (blocks (now (a .entry)) ++ (blocks (now (c .entry)) ++ (num n ∷ []))) ⌝ }
 {
     let t = products(h);
     let hi = t.hi;
     let lo = t.lo;
     let f = FEEDBACK;
+    let x = absorb_all(&hi, &lo, &f, Block { hi: 0, lo: 0 }, a);
+    let y = absorb_all(&hi, &lo, &f, x, c);
+    product_with(&hi, &lo, &f, xor(y, n))
+}
+
+// The turns of GHASH with the blocks of s, from the block y on.
+fn absorb_all(hi: &[u64; 16], lo: &[u64; 16], f: &[u64; 16], y: Block, s: &[u8]) -> Block
+    requires { ⌜ Tables (now hi) (now lo) (now f) ⌝ }
+    ensures { λ r. ⌜ num r ≡ ghashFrom (blockAt 8 (now (hi .entry)) (now (lo .entry))) (num y) (blocks (now (s .entry))) ⌝ }
+{
     let mut acc = y;
     let mut a: usize = 0;
     while a < s.len() {
-        let n = absorb(&hi, &lo, &f, acc, &s[a..]);
+        let n = absorb(hi, lo, f, acc, &s[a..]);
         acc = n;
         a = a + 16;
     }
     acc
-}
-
-// The product of two blocks.
-pub fn multiply(x: Block, h: Block) -> Block
-    ensures { λ r. ⌜ num r ≡ product (num x) (num h) ⌝ }
-{
-    let t = products(h);
-    let hi = t.hi;
-    let lo = t.lo;
-    let f = FEEDBACK;
-    product_with(&hi, &lo, &f, x)
 }
 
 // One turn of GHASH, with the first block of s.
@@ -135,7 +135,7 @@ fn sums(a: u64, b: u64, c: u64, d: u64) -> [u64; 16]
 }
 
 // The sum of two blocks.
-pub fn xor(a: Block, b: Block) -> Block
+fn xor(a: Block, b: Block) -> Block
     ensures { λ r. ⌜ num r ≡ bitXor (num a) (num b) ⌝ }
 {
     Block {

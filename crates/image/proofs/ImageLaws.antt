@@ -18,7 +18,7 @@ use Rattle.image.specs.declared.Written.{Written}
 use Rattle.image.specs.declared.Written.the-variants.{Done, WrongBuffer}
 use Rattle.image.specs.Codec.{Put, Got}
 use Rattle.image.specs.Layout.{meterPart}
-use Rattle.image.specs.Image.{version, imageSize, imageOf, meterOf, blankMeter, statusOf, meterBy, readImage, Writes, ReadBack, WrittenBack}
+use Rattle.image.specs.Image.{version, imageSize, imageOf, meterOf, meterIn, blankMeter, statusOf, meterBy, readImage, Writes, ReadBack, WrittenBack}
 use Rattle.image.proofs.CodecLaws.{rest-bytes}
 use Rattle.image.proofs.Sizes.{sizes}
 use Rattle.image.proofs.LayoutLaws.{meter-lawful}
@@ -52,9 +52,17 @@ pub blank-is : blankMeter ≡ meterPart .value (replicate 1727 0)
 unfolding blankMeter
 blank-is = ap (λ (n : ℕ). meterPart .value (replicate n 0)) (sizes .meter-size)
 
-pub whole-read : (s : List ℕ) {m : Meter} → statusOf s ≡ Whole → Got meterPart s 1 m → record { status = Whole; meter = m } ≡ readImage s
+pub no-meter : (s : List ℕ) → (length s ≡ imageSize → ⊥) → meterIn s ≡ blankMeter
+unfolding meterIn
+no-meter s h = rw (ne-eqb (length s) imageSize h)
+
+pub in-meter : (s : List ℕ) → length s ≡ imageSize → meterIn s ≡ meterOf s
+unfolding meterIn
+in-meter s h = rw (eq-eqb (length s) imageSize h)
+
+pub meter-there : (s : List ℕ) {m : Meter} → length s ≡ imageSize → Got meterPart s 1 m → m ≡ meterIn s
 unfolding meterOf
-whole-read s e g = ap (λ (x : Meter). record { status = Whole; meter = x }) (g .is) ∙ read-by s Whole e
+meter-there s h g = g .is ∙ sym (in-meter s h)
 
 pub refused-read : (s : List ℕ) (t : Status) {r : ImageRead} → statusOf s ≡ t → meterBy t s ≡ blankMeter → (r .status ≡ t) × (r .meter ≡ blankMeter) → r ≡ readImage s
 refused-read s t e b q =
@@ -92,6 +100,11 @@ passed s e = go (eqb (length s) imageSize) (eqb (getD s 0 0) version) (meterPart
     go true true false p q r e = absurd (let z : _≡_ {A = ℕ} 0 1 = cc in omega arith)
     go true false c p q r e = absurd (let z : _≡_ {A = ℕ} 0 1 = cc in omega arith)
     go false b c p q r e = absurd (let z : _≡_ {A = ℕ} 0 1 = cc in omega arith)
+
+-- a whole image is read
+pub whole-read : (s : List ℕ) {m : Meter} → statusOf s ≡ Whole → m ≡ meterIn s → record { status = Whole; meter = m } ≡ readImage s
+whole-read s e g =
+    ap (λ (x : Meter). record { status = Whole; meter = x }) (g ∙ in-meter s (passed s e .long)) ∙ read-by s Whole e
 
 -- What was read is written: every image that is read comes back, byte for byte.
 pub written-back : WrittenBack

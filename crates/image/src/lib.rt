@@ -15,7 +15,7 @@ pub use read::CLOCK;
 pub use read::NAME;
 pub use read::REGISTER;
 ghost use mathlib.Core.Path.{_≡_};
-ghost use Rattle.image.specs.Image.{blankMeter, readImage, Writes};
+ghost use Rattle.image.specs.Image.{blankMeter, meterIn, readImage, statusOf, Writes};
 
 // How many bytes an image has, and the first of them.
 pub const SIZE: usize = 1728;
@@ -60,26 +60,54 @@ pub fn write_image(meter: Meter, out: &mut [u8]) -> Written
 pub fn read_image(s: &[u8]) -> ImageRead
     ensures { λ r. ⌜ r ≡ readImage (now (s .entry)) ⌝ }
 {
+    let status = status_of(s);
+    match status {
+        Status::Whole => ImageRead {
+            status: Status::Whole,
+            meter: meter_in(s),
+        },
+        Status::WrongLength => refused(Status::WrongLength),
+        Status::WrongVersion => refused(Status::WrongVersion),
+        Status::NoImage => refused(Status::NoImage),
+    }
+}
+
+// What bytes come to as an image: whole, or the first test that they fail.
+pub fn status_of(s: &[u8]) -> Status
+    ensures { λ r. ⌜ r ≡ statusOf (now (s .entry)) ⌝ }
+{
     if s.len() != SIZE {
-        return refused(Status::WrongLength);
+        return Status::WrongLength;
     }
     if s[0] != VERSION {
-        return refused(Status::WrongVersion);
+        return Status::WrongVersion;
     }
     if !check::meter_taken(s, 1) {
-        return refused(Status::NoImage);
+        return Status::NoImage;
     }
-    let meter = read::meter_at(s, 1);
-    ImageRead {
-        status: Status::Whole,
-        meter,
+    Status::Whole
+}
+
+// The meter in an image, for who knows that it is whole; a blank one where the bytes have another length than an image.
+pub fn meter_in(s: &[u8]) -> Meter
+    ensures { λ r. ⌜ r ≡ meterIn (now (s .entry)) ⌝ }
+{
+    if s.len() != SIZE {
+        return blank_meter();
     }
+    read::meter_at(s, 1)
 }
 
 fn refused(status: Status) -> ImageRead
     ensures { λ r. ⌜ (r .status ≡ status) × (r .meter ≡ blankMeter) ⌝ }
 {
-    let zeros = [0u8; SIZE - 1];
-    let meter = read::meter_at(&zeros, 0);
+    let meter = blank_meter();
     ImageRead { status, meter }
+}
+
+fn blank_meter() -> Meter
+    ensures { λ r. ⌜ r ≡ blankMeter ⌝ }
+{
+    let zeros = [0u8; SIZE - 1];
+    read::meter_at(&zeros, 0)
 }

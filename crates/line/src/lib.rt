@@ -1,5 +1,5 @@
-// The line, which decides on frames: links, associations, counters, keys and titles. Its part of soundness, a new one, and
-// what power-up leaves of it.
+// The line, which decides on frames: links, associations, counters, keys and titles. Its part of soundness, a new one, what
+// power-up leaves of it, and the line with zeros wherever it holds nothing.
 use model::Counters;
 ghost use mathlib.Core.Path.{_≡_};
 ghost use mathlib.Core.List.{List};
@@ -8,6 +8,7 @@ ghost use lib.ListN.{replicate};
 ghost use Rattle.model.specs.Services.{within};
 ghost use Rattle.model.specs.Soundness.{agreedWithin, kindsKnown, linksStand, onLink, servicesOffered};
 ghost use Rattle.model.specs.State.{newPeer, noCounters};
+ghost use Rattle.line.specs.Canonical.{clearedCipherParty, clearedLine, clearedParty};
 ghost use Rattle.line.specs.Left.{Restarted};
 ghost use Rattle.line.specs.View.{associationOf, lineOf, lineSound, newLine, peerOf};
 
@@ -196,5 +197,66 @@ fn new_cipher_party(party: Party) -> CipherParty
         client: [0u8; 8],
         meter: [0u8; 8],
         counters,
+    }
+}
+
+// The line with zeros in the fields of an association that has ended, or is no longer pending.
+pub fn clear_line(line: LineState) -> LineState
+    ensures { λ r. ⌜ r ≡ clearedLine line ⌝ }
+{
+    let title = line.title;
+    let v = line.verification;
+    let verification = clear_party(v);
+    let h = line.han;
+    let han = clear_cipher_party(h);
+    LineState {
+        title,
+        verification,
+        han,
+        p5: line.p5,
+    }
+}
+
+fn clear_party(party: Party) -> Party
+    ensures { λ r. ⌜ r ≡ clearedParty party ⌝ }
+{
+    let title = party.title;
+    let phase = party.phase;
+    match phase {
+        Phase::Idle => Party {
+            title,
+            up: party.up,
+            phase: Phase::Idle,
+            agreed: [0u8; 3],
+        },
+        Phase::Pending => party,
+        Phase::Associated => party,
+    }
+}
+
+fn clear_cipher_party(h: CipherParty) -> CipherParty
+    ensures { λ r. ⌜ r ≡ clearedCipherParty h ⌝ }
+{
+    let p = h.party;
+    let phase = p.phase;
+    let party = clear_party(p);
+    let key = h.key;
+    let counters = h.counters;
+    match phase {
+        Phase::Idle => CipherParty {
+            party,
+            key: [0u8; 16],
+            client: [0u8; 8],
+            meter: [0u8; 8],
+            counters,
+        },
+        Phase::Pending => h,
+        Phase::Associated => CipherParty {
+            party,
+            key,
+            client: [0u8; 8],
+            meter: [0u8; 8],
+            counters,
+        },
     }
 }

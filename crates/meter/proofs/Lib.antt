@@ -2,3 +2,4 @@ pub mod MeterLaws
 pub mod OwnedLaws
 pub mod UnsoundExamples
 pub mod SameSecond
+pub mod CanonicalLaws

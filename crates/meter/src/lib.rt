@@ -1,6 +1,7 @@
 // The meter: its state, the test of soundness for every state that can be handed in, and the owner's calls. Each call takes
 // the meter whole and hands the changed meter back beside the number of its refusal, or 0; it refuses an unsound meter by 3,
-// then by its own number, and hands a refused meter back as it was.
+// then by its own number, and hands a refused meter back as it was. Beside the calls: the meter with zeros wherever it holds
+// nothing.
 use body::BodyState;
 use line::LineState;
 use model::Clock;
@@ -15,6 +16,7 @@ ghost use Rattle.model.specs.Soundness.{sound};
 ghost use Rattle.model.specs.Calls.{Call};
 ghost use Rattle.store.specs.Lists.{held};
 ghost use Rattle.meter.specs.View.{view};
+ghost use Rattle.meter.specs.Canonical.{Cleared};
 ghost use Rattle.meter.specs.Promise.{Owned, PoweredUp, changed};
 
 pub struct Meter {
@@ -185,6 +187,18 @@ impl Meter {
         self.line = line;
         self.body = b;
         accepted(self)
+    }
+
+    // The meter with zeros wherever it holds nothing: in the places above a count, and in the fields of an association that has
+    // ended or is no longer pending. It is no call of the owner's: of any meter, sound or not, it holds the same.
+    pub fn cleared(self) -> Meter
+        ensures { λ r. ⌜ Cleared self r ⌝ }
+    {
+        let l = self.line;
+        let line = line::clear_line(l);
+        let b = self.body;
+        let body = body::clear_body(b);
+        Meter { line, body }
     }
 }
 

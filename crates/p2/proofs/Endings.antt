@@ -2,7 +2,7 @@
 -- the call itself promise.
 use mathlib.Core.Path.{_≡_, refl, sym, ap, _∙_}
 use mathlib.Core.Bool.{Bool, true, false, false≢true}
-use mathlib.Core.List.{List, [], _∷_, _++_}
+use mathlib.Core.List.{List, [], _++_}
 use Prim.Native.Nat.{ℕ, _+_, _-_, _≤_, _<_}
 use native.Mathlib.Omega.{arith}
 use lib.Dec.{eqb}
@@ -16,7 +16,7 @@ use Rattle.model.specs.declared.Client.{Client}
 use Rattle.model.specs.declared.Client.the-variants.{Verification, Han}
 use Rattle.model.specs.declared.Counters.{Counters}
 use Rattle.model.specs.State.{Association, Peer, Line, Body}
-use Rattle.model.specs.Objects.{Request, Service, get, action, Meaning, meaning, Result, granted, denied, refusalOf as resultNumber, attributeRead, methodInvoked, getAnswer, actionAnswer, answered, turned}
+use Rattle.model.specs.Objects.{Request, Service, get, action, meaning, Result, granted, denied, refusalOf as resultNumber, attributeRead, methodInvoked, getAnswer, actionAnswer, answered, turned}
 use Rattle.model.specs.Soundness.{isNone, sound}
 use Rattle.model.specs.Calls.{Lent, Wrap, lentRefusal, act, step}
 use Rattle.wire.specs.Wrote.{Wrote}
@@ -26,8 +26,7 @@ use Rattle.wire.proofs.WroteLaws.{past, there}
 use Rattle.hdlc.specs.declared.Head.{Head}
 use Rattle.hdlc.specs.Replies.{apduFrame, Sent}
 use Rattle.hdlc.proofs.ReplyLaws.{length-apdu}
-use Rattle.envelope.specs.declared.Keys.{Keys}
-use Rattle.envelope.specs.Layout.{sealedEnvelope}
+use Rattle.envelope.specs.Layout.{Keys, sealedEnvelope}
 use Rattle.envelope.proofs.CloseLaws.{envelope-size, length-envelope}
 use Rattle.answers.specs.declared.Answered.{Answered as BodyAnswer}
 use Rattle.answers.specs.Promise.{Turns}

@@ -8,20 +8,23 @@ use lib.ListN.{length, take}
 use Rattle.wire.specs.Reading.{part}
 use Rattle.model.specs.declared.Client.the-variants.{Han}
 use Rattle.model.specs.declared.Counters.{Counters}
-use Rattle.model.specs.State.{none}
+use Rattle.model.specs.State.{none, Line}
 use Rattle.counters.specs.Window.{inWindow}
-use Rattle.envelope.specs.declared.Keys.{Keys}
 use Rattle.envelope.specs.declared.Opening.{Opening}
 use Rattle.envelope.specs.declared.Opening.the-variants.{Fails, Opens}
 use Rattle.envelope.specs.declared.Admission.{Admission}
 use Rattle.envelope.specs.declared.Admission.the-variants.{Unopened, OutsideWindow, Admitted}
+use Rattle.envelope.specs.Layout.{Keys}
 use Rattle.envelope.specs.Opening.{Opened, fails, opens, opened, OpenedInto, AdmittedInto}
 use Rattle.envelope.proofs.AdmitLaws.{opened-not, opened-text, unopened-of, outside-of, admitted-of}
 use Rattle.line.specs.declared.LineState.{LineState}
 use Rattle.line.specs.View.{lineOf}
-use Rattle.protocol.specs.Clients.{associates}
+use Rattle.cosem.specs.declared.Asked.{Asked}
+use Rattle.envelope.specs.Challenge.{rightProof}
+use Rattle.protocol.specs.declared.Secrets.{Secrets}
+use Rattle.protocol.specs.Clients.{associates, lentKeys, meterChallenge}
 use Rattle.protocol.specs.Rulings.{Ruling, says, nothing, envelopeUnopened, outsideWindow}
-use Rattle.protocol.specs.Decide.{admitted}
+use Rattle.protocol.specs.Decide.{admitted, proofIn, provesItself}
 
 -- the part from the start, as a caller lends it
 from-start : (n : ℕ) (s : List ℕ) → take n s ≡ part 0 n s
@@ -57,3 +60,13 @@ module _ {k n : Keys} {t u : List ℕ} (tag : ℕ) (s : List ℕ) (ek : k ≡ n)
 
     pub admits-inside : {counter size : ℕ} → r ≡ Admitted counter size → admitted (lineOf l) (opened n u tag s) inside ≡ inside counter (part 0 size after)
     admits-inside {counter} {size} q = let w = admitted-of _ g q in rw (same-opening ∙ w .0 .0, window-of counter (w .1)) (ap (inside counter) (from-start size after))
+
+-- a proof that was tested under the lent keys, made ready
+pub proves-under : (l : Line) (a : Secrets) (counter : ℕ) (text : List ℕ) (q : Asked) {k : Keys} {b : Bool} → k ≡ lentKeys a
+    → b ≡ rightProof k (l .han .peer .title) (meterChallenge (l .han .peer .association)) (l .han .counters .accepted) counter (proofIn text (q .wanted))
+    → provesItself l a counter text q ≡ b
+unfolding provesItself
+proves-under l a counter text q e h =
+    sym
+    (h
+    ∙ ap (λ (k : Keys). rightProof k (l .han .peer .title) (meterChallenge (l .han .peer .association)) (l .han .counters .accepted) counter (proofIn text (q .wanted))) e)

@@ -2,3 +2,4 @@ pub mod Endings
 pub mod Lengths
 pub mod Envelopes
 pub mod Runs
+pub mod Requests

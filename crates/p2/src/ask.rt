@@ -1,13 +1,15 @@
 // Requests for the body: V's plain GET, and H's GET and ACTION in their envelopes.
 use crate::Received;
-use crate::ending::answered;
+use crate::Told;
 use crate::ending::except;
+use crate::ending::joined;
 use crate::ending::kept;
 use cosem::Asked;
 use cosem::Exception;
 use cosem::Reading;
 use envelope::Admission;
 use envelope::LONGEST_APDU;
+use envelope::ReadyKeys;
 use hdlc::Head;
 use line::LineState;
 use meter::Meter;
@@ -27,28 +29,22 @@ ghost use Rattle.model.specs.declared.Client.the-variants.{Han};
 ghost use Rattle.cosem.specs.Requests.{readGet, requested};
 ghost use Rattle.line.specs.View.{lineOf};
 ghost use Rattle.meter.specs.View.{view};
+ghost use Rattle.protocol.specs.declared.Secrets.{Secrets as Lender};
 ghost use Rattle.protocol.specs.Clients.{associates, selectiveIn};
 ghost use Rattle.protocol.specs.Rulings.{asks, nothing, outsideWindow, says};
 ghost use Rattle.protocol.specs.Decide.{accepted, advanced, asked, askedInside, readInside, requestEnclosed, wrap};
-ghost use Rattle.p2.specs.Promise.{Follows};
+ghost use Rattle.p2.specs.Promise.{Follows, FollowsUnder, Tells};
 
-// A plain request.
-pub fn ask_plain(
-    meter: Meter,
-    secrets: Secrets,
-    client: Client,
-    head: Head,
-    apdu: &[u8],
-    out: &mut [u8],
-) -> Received
+// A plain request. No key has a part in it.
+pub fn ask_plain(meter: Meter, client: Client, head: Head, apdu: &[u8], out: &mut [u8]) -> Received
     requires { ⌜ (sound (view meter) ≡ true) × (replyRoom longestSent ≤ length (now out)) ⌝ }
-    ensures { λ r. ⌜ Follows (asked (lineOf (meter .line)) secrets client head (now (apdu .entry)) (readGet (now (apdu .entry)))) meter (now (out .entry)) (now (out .exit)) r ⌝ }
+    ensures { λ r. ⌜ ((a : Lender) → Follows (asked (lineOf (meter .line)) a client head (now (apdu .entry)) (readGet (now (apdu .entry)))) meter (now (out .entry)) (now (out .exit)) r) ⌝ }
 {
     let line = meter.line;
     let reading = cosem::read_get(apdu);
     match reading {
         Reading::Asks(request) => answer_plain(meter, client, head, apdu, request, out),
-        Reading::Malformed => except(meter, line, head, Exception::ServiceUnknown, out),
+        Reading::Malformed => { joined(except(line, head, Exception::ServiceUnknown, out), meter) }
     }
 }
 
@@ -99,21 +95,24 @@ pub fn ask_enclosed(
     let mut text = [0u8; LONGEST_APDU];
     let admission = envelope::admit_envelope(keys, title, tag, han.counters, apdu, &mut text);
     match admission {
-        Admission::Unopened => kept(6, meter),
-        Admission::OutsideWindow => drop_association(meter),
+        Admission::Unopened => joined(kept(6, line), meter),
+        Admission::OutsideWindow => joined(drop_association(line), meter),
         Admission::Admitted { counter, size } => {
-            ask_inside(meter, secrets, head, tag, counter, &text[0..size], out)
+            ask_inside(meter, keys, head, tag, counter, &text[0..size], out)
         }
     }
 }
 
 // Refusal 7: nothing goes out, and H's association is dropped.
-pub fn drop_association(meter: Meter) -> Received
-    ensures { λ r. ⌜ ((l : List ℕ) → Follows (says outsideWindow nothing (associates Han none (lineOf (meter .line)))) meter l l r) ⌝ }
+pub fn drop_association(line: LineState) -> Told
+    ensures { λ r. ⌜ ((l : List ℕ) → Tells (says outsideWindow nothing (associates Han none (lineOf line))) line l l r) ⌝ }
 {
-    let line = meter.line;
     let next = association::ended(line, Client::Han);
-    answered(7, 0, next, meter)
+    Told {
+        refusal: 7,
+        count: 0,
+        line: next,
+    }
 }
 
 // The line with a counter of H's as the last accepted.
@@ -125,10 +124,10 @@ pub fn accept_counter(line: LineState, counter: u32) -> LineState
     association::with_counters(line, pair)
 }
 
-// An opened request of H.
+// An opened request of H, under the keys that opened it.
 fn ask_inside(
     meter: Meter,
-    secrets: Secrets,
+    keys: ReadyKeys,
     head: Head,
     tag: u8,
     counter: u32,
@@ -136,17 +135,16 @@ fn ask_inside(
     out: &mut [u8],
 ) -> Received
     requires { ⌜ (sound (view meter) ≡ true) × (0xC0 < tag) × (tag < 0xFC) × (replyRoom longestSent ≤ length (now out)) ⌝ }
-    ensures { λ r. ⌜ Follows (askedInside (lineOf (meter .line)) secrets head tag counter (now (text .entry)) (readInside tag (now (text .entry)))) meter (now (out .entry)) (now (out .exit)) r ⌝ }
+    ensures { λ r. ⌜ FollowsUnder keys (λ a. askedInside (lineOf (meter .line)) a head tag counter (now (text .entry)) (readInside tag (now (text .entry)))) meter (now (out .entry)) (now (out .exit)) r ⌝ }
 {
     let reading = read_inside(tag, text);
-    let ak = secrets.ak;
     match reading {
         Reading::Asks(request) => {
-            answer_enclosed(meter, ak, head, tag, counter, text, request, out)
+            answer_enclosed(meter, keys, head, tag, counter, text, request, out)
         }
         Reading::Malformed => {
             let next = accept_counter(meter.line, counter);
-            except(meter, next, head, Exception::ServiceUnknown, out)
+            joined(except(next, head, Exception::ServiceUnknown, out), meter)
         }
     }
 }
@@ -165,7 +163,7 @@ fn read_inside(tag: u8, text: &[u8]) -> Reading
 // The body's answer to an opened request of H, in an envelope with the meter's next counter.
 fn answer_enclosed(
     meter: Meter,
-    ak: [u8; 16],
+    keys: ReadyKeys,
     head: Head,
     tag: u8,
     counter: u32,
@@ -174,7 +172,7 @@ fn answer_enclosed(
     out: &mut [u8],
 ) -> Received
     requires { ⌜ (sound (view meter) ≡ true) × (0xC0 < tag) × (tag < 0xFC) × (replyRoom longestSent ≤ length (now out)) ⌝ }
-    ensures { λ r. ⌜ Follows (asks (requested Han (selectiveIn Han (lineOf (meter .line))) (now (text .entry)) request) (wrap ak head tag) (advanced (accepted counter (lineOf (meter .line))))) meter (now (out .entry)) (now (out .exit)) r ⌝ }
+    ensures { λ r. ⌜ FollowsUnder keys (λ a. asks (requested Han (selectiveIn Han (lineOf (meter .line))) (now (text .entry)) request) (wrap (a .ak) head tag) (advanced (accepted counter (lineOf (meter .line))))) meter (now (out .entry)) (now (out .exit)) r ⌝ }
 {
     let line = meter.line;
     let body = meter.body;
@@ -186,7 +184,6 @@ fn answer_enclosed(
     let selective = association::is_selective(line, Client::Han);
     let answer = answers::answer(body, Client::Han, selective, text, request, out, TEXT_AT);
     let size = answer.next - TEXT_AT;
-    let keys = association::dedicated_keys(ak, next);
     let title = line.title;
     let count = replies::send_enclosed(out, head, keys, title, tag + 4, number, size);
     let after = answer.body;

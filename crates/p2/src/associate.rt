@@ -1,12 +1,12 @@
 // AARQ: V's is plain, H's has its initiate request in an envelope.
-use crate::Received;
-use crate::ending::answered;
+use crate::Told;
 use acse::Aarq;
 use acse::InitiateRequest;
 use envelope::LONGEST_APDU;
 use envelope::Opening;
+use envelope::ReadyKeys;
 use hdlc::Head;
-use meter::Meter;
+use line::LineState;
 use model::Client;
 use protocol::Secrets;
 ghost use mathlib.Core.Path.{_≡_};
@@ -22,79 +22,80 @@ ghost use Rattle.line.specs.View.{lineOf};
 ghost use Rattle.protocol.specs.Clients.{lentKeys, peer};
 ghost use Rattle.protocol.specs.Rulings.{aarqNotAccepted, refuses};
 ghost use Rattle.protocol.specs.Decide.{acceptedCiphered, acceptedPlain, associating, enclosed, initiated};
-ghost use Rattle.p2.specs.Promise.{Follows};
+ghost use Rattle.p2.specs.Promise.{Tells, TellsWith};
 
 // An AARQ.
 pub fn associate(
-    meter: Meter,
+    line: LineState,
     secrets: Secrets,
     client: Client,
     head: Head,
     apdu: &[u8],
     out: &mut [u8],
-) -> Received
+) -> Told
     requires { ⌜ replyRoom longestSent ≤ length (now out) ⌝ }
-    ensures { λ r. ⌜ Follows (associating (lineOf (meter .line)) secrets client head (now (apdu .entry)) (readAarq (now (apdu .entry)) client (peer client (lineOf (meter .line)) .title))) meter (now (out .entry)) (now (out .exit)) r ⌝ }
+    ensures { λ r. ⌜ Tells (associating (lineOf line) secrets client head (now (apdu .entry)) (readAarq (now (apdu .entry)) client (peer client (lineOf line) .title))) line (now (out .entry)) (now (out .exit)) r ⌝ }
 {
-    let line = meter.line;
     let title = association::title_of(line, client);
     let aarq = acse::read_aarq(apdu, client, &title);
     match aarq {
         Aarq::Plain { services } => {
             let proposed = three_at(apdu, services);
-            accept_plain(meter, head, proposed, out)
+            accept_plain(line, head, proposed, out)
         }
         Aarq::Ciphered {
             challenge,
             envelope,
         } => {
             let theirs = eight_at(apdu, challenge);
-            open_request(meter, secrets, head, theirs, &apdu[envelope..], out)
+            open_request(line, secrets, head, theirs, &apdu[envelope..], out)
         }
-        Aarq::Departs => reject_aarq(meter, client, head, out),
+        Aarq::Departs => reject_aarq(line, client, head, out),
     }
 }
 
 // The AARE that does not accept.
-fn reject_aarq(meter: Meter, client: Client, head: Head, out: &mut [u8]) -> Received
+fn reject_aarq(line: LineState, client: Client, head: Head, out: &mut [u8]) -> Told
     requires { ⌜ replyRoom longestSent ≤ length (now out) ⌝ }
-    ensures { λ r. ⌜ Follows (refuses aarqNotAccepted client head (lineOf (meter .line))) meter (now (out .entry)) (now (out .exit)) r ⌝ }
+    ensures { λ r. ⌜ Tells (refuses aarqNotAccepted client head (lineOf line)) line (now (out .entry)) (now (out .exit)) r ⌝ }
 {
     let count = replies::send_rejected(out, head, client);
-    Received {
+    Told {
         refusal: 11,
         count,
-        meter,
+        line,
     }
 }
 
 // V is associated.
-fn accept_plain(meter: Meter, head: Head, proposed: [u8; 3], out: &mut [u8]) -> Received
+fn accept_plain(line: LineState, head: Head, proposed: [u8; 3], out: &mut [u8]) -> Told
     requires { ⌜ replyRoom longestSent ≤ length (now out) ⌝ }
-    ensures { λ r. ⌜ Follows (acceptedPlain (lineOf (meter .line)) head proposed) meter (now (out .entry)) (now (out .exit)) r ⌝ }
+    ensures { λ r. ⌜ Tells (acceptedPlain (lineOf line) head proposed) line (now (out .entry)) (now (out .exit)) r ⌝ }
 {
-    let line = meter.line;
     let title = line.title;
     let agreed = acse::agreed(Client::Verification, proposed);
     let next = association::associated_plain(line, agreed);
     let count = replies::send_accepted_plain(out, head, Client::Verification, title, agreed);
-    answered(0, count, next, meter)
+    Told {
+        refusal: 0,
+        count,
+        line: next,
+    }
 }
 
 // The envelope of H's AARQ, with H's challenge.
 fn open_request(
-    meter: Meter,
+    line: LineState,
     secrets: Secrets,
     head: Head,
     challenge: [u8; 8],
     envelope: &[u8],
     out: &mut [u8],
-) -> Received
+) -> Told
     requires { ⌜ replyRoom longestSent ≤ length (now out) ⌝ }
-    ensures { λ r. ⌜ Follows (enclosed (lineOf (meter .line)) secrets head challenge (opened (lentKeys secrets) (lineOf (meter .line) .han .peer .title) 0x21 (now (envelope .entry)))) meter (now (out .entry)) (now (out .exit)) r ⌝ }
+    ensures { λ r. ⌜ Tells (enclosed (lineOf line) secrets head challenge (opened (lentKeys secrets) (lineOf line .han .peer .title) 0x21 (now (envelope .entry)))) line (now (out .entry)) (now (out .exit)) r ⌝ }
 {
     let keys = association::lent_keys(secrets);
-    let line = meter.line;
     let title = association::title_of(line, Client::Han);
     let mut text = [0u8; LONGEST_APDU];
     let Opening::Opens { counter, size } = envelope::open_envelope(
@@ -104,11 +105,12 @@ fn open_request(
         envelope,
         &mut text,
     ) else {
-        return reject_aarq(meter, Client::Han, head, out);
+        return reject_aarq(line, Client::Han, head, out);
     };
     initiate(
-        meter,
+        line,
         secrets,
+        keys,
         head,
         challenge,
         &text[0..size],
@@ -117,18 +119,19 @@ fn open_request(
     )
 }
 
-// H's opened initiate request.
+// H's opened initiate request, under the keys that opened it.
 fn initiate(
-    meter: Meter,
+    line: LineState,
     secrets: Secrets,
+    keys: ReadyKeys,
     head: Head,
     challenge: [u8; 8],
     text: &[u8],
     counter: u32,
     out: &mut [u8],
-) -> Received
+) -> Told
     requires { ⌜ replyRoom longestSent ≤ length (now out) ⌝ }
-    ensures { λ r. ⌜ Follows (initiated (lineOf (meter .line)) secrets head challenge (now (text .entry)) counter (readRequest (now (text .entry)))) meter (now (out .entry)) (now (out .exit)) r ⌝ }
+    ensures { λ r. ⌜ TellsWith keys secrets (initiated (lineOf line) secrets head challenge (now (text .entry)) counter (readRequest (now (text .entry)))) line (now (out .entry)) (now (out .exit)) r ⌝ }
 {
     let request = acse::read_request(text);
     match request {
@@ -136,8 +139,9 @@ fn initiate(
             let dedicated = sixteen_at(text, key);
             let proposed = three_at(text, services);
             accept_ciphered(
-                meter,
+                line,
                 secrets,
+                keys,
                 head,
                 challenge,
                 dedicated,
@@ -146,31 +150,30 @@ fn initiate(
                 out,
             )
         }
-        InitiateRequest::Departs => reject_aarq(meter, Client::Han, head, out),
+        InitiateRequest::Departs => reject_aarq(line, Client::Han, head, out),
     }
 }
 
 // H is pending: its counter becomes the last accepted, and the meter's next one is used.
 fn accept_ciphered(
-    meter: Meter,
+    line: LineState,
     secrets: Secrets,
+    keys: ReadyKeys,
     head: Head,
     challenge: [u8; 8],
     key: [u8; 16],
     proposed: [u8; 3],
     counter: u32,
     out: &mut [u8],
-) -> Received
+) -> Told
     requires { ⌜ replyRoom longestSent ≤ length (now out) ⌝ }
-    ensures { λ r. ⌜ Follows (acceptedCiphered (lineOf (meter .line)) secrets head challenge key proposed counter) meter (now (out .entry)) (now (out .exit)) r ⌝ }
+    ensures { λ r. ⌜ TellsWith keys secrets (acceptedCiphered (lineOf line) secrets head challenge key proposed counter) line (now (out .entry)) (now (out .exit)) r ⌝ }
 {
-    let line = meter.line;
     let title = line.title;
     let han = line.han;
     let pair = counters::accept(han.counters, counter);
     let next = counters::take(pair);
     let agreed = acse::agreed(Client::Han, proposed);
-    let keys = association::lent_keys(secrets);
     let ours = secrets.challenge;
     let after = association::pending(line, agreed, key, challenge, ours, next.counters);
     let number = next.number;
@@ -184,7 +187,11 @@ fn accept_ciphered(
         agreed,
         number,
     );
-    answered(0, count, after, meter)
+    Told {
+        refusal: 0,
+        count,
+        line: after,
+    }
 }
 
 // The bytes at a place; zeros where there are fewer.

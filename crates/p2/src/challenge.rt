@@ -1,8 +1,7 @@
 // H's answer to the challenge: its proof tested, the meter's sent.
-use crate::Received;
+use crate::Told;
 use crate::ask::accept_counter;
 use crate::ask::drop_association;
-use crate::ending::answered;
 use crate::ending::except;
 use crate::ending::kept;
 use cosem::Asked;
@@ -11,9 +10,9 @@ use cosem::Reading;
 use cosem::Wanted;
 use envelope::Admission;
 use envelope::LONGEST_APDU;
+use envelope::ReadyKeys;
 use hdlc::Head;
 use line::LineState;
-use meter::Meter;
 use model::Client;
 use model::Name;
 use protocol::Secrets;
@@ -22,81 +21,82 @@ ghost use Prim.Native.Nat.{_≤_};
 ghost use lib.ListN.{length};
 ghost use Rattle.model.specs.Limits.{longestSent, replyRoom};
 ghost use Rattle.cosem.specs.Requests.{readAction};
+ghost use Rattle.envelope.specs.Layout.{keysOf};
+ghost use Rattle.envelope.specs.Challenge.{rightProof};
 ghost use Rattle.line.specs.View.{lineOf};
-ghost use Rattle.protocol.specs.Decide.{answeredChallenge, challenged, challengeEnclosed, disproved, isChallenge, onFirstMethod, proofIn, proved, provesItself};
-ghost use Rattle.p2.specs.Promise.{Follows};
+ghost use Rattle.protocol.specs.Clients.{meterChallenge};
+ghost use Rattle.protocol.specs.Decide.{answeredChallenge, challenged, challengeEnclosed, disproved, isChallenge, onFirstMethod, proofIn, proved};
+ghost use Rattle.p2.specs.Promise.{Tells, TellsUnder};
 
 // An envelope with the tag of the challenge's answer.
 pub fn hear_challenge(
-    meter: Meter,
+    line: LineState,
     secrets: Secrets,
     head: Head,
     apdu: &[u8],
     out: &mut [u8],
-) -> Received
+) -> Told
     requires { ⌜ replyRoom longestSent ≤ length (now out) ⌝ }
-    ensures { λ r. ⌜ Follows (challengeEnclosed (lineOf (meter .line)) secrets head (now (apdu .entry))) meter (now (out .entry)) (now (out .exit)) r ⌝ }
+    ensures { λ r. ⌜ Tells (challengeEnclosed (lineOf line) secrets head (now (apdu .entry))) line (now (out .entry)) (now (out .exit)) r ⌝ }
 {
-    let line = meter.line;
     let han = line.han;
     let keys = association::lent_keys(secrets);
     let title = association::title_of(line, Client::Han);
     let mut text = [0u8; LONGEST_APDU];
     let admission = envelope::admit_envelope(keys, title, 0xCB, han.counters, apdu, &mut text);
     match admission {
-        Admission::Unopened => kept(6, meter),
-        Admission::OutsideWindow => drop_association(meter),
+        Admission::Unopened => kept(6, line),
+        Admission::OutsideWindow => drop_association(line),
         Admission::Admitted { counter, size } => {
-            answer_challenge(meter, secrets, head, counter, &text[0..size], out)
+            answer_challenge(line, keys, head, counter, &text[0..size], out)
         }
     }
 }
 
 // An opened APDU while H is pending.
 fn answer_challenge(
-    meter: Meter,
-    secrets: Secrets,
+    line: LineState,
+    keys: ReadyKeys,
     head: Head,
     counter: u32,
     text: &[u8],
     out: &mut [u8],
-) -> Received
+) -> Told
     requires { ⌜ replyRoom longestSent ≤ length (now out) ⌝ }
-    ensures { λ r. ⌜ Follows (answeredChallenge (lineOf (meter .line)) secrets head counter (now (text .entry)) (readAction (now (text .entry)))) meter (now (out .entry)) (now (out .exit)) r ⌝ }
+    ensures { λ r. ⌜ TellsUnder keys (λ a. answeredChallenge (lineOf line) a head counter (now (text .entry)) (readAction (now (text .entry)))) line (now (out .entry)) (now (out .exit)) r ⌝ }
 {
     let reading = cosem::read_action(text);
     match reading {
-        Reading::Asks(request) => judge(meter, secrets, head, counter, text, request, out),
+        Reading::Asks(request) => judge(line, keys, head, counter, text, request, out),
         Reading::Malformed => {
-            let next = accept_counter(meter.line, counter);
-            except(meter, next, head, Exception::ServiceUnknown, out)
+            let next = accept_counter(line, counter);
+            except(next, head, Exception::ServiceUnknown, out)
         }
     }
 }
 
 // An ACTION while H is pending.
 fn judge(
-    meter: Meter,
-    secrets: Secrets,
+    line: LineState,
+    keys: ReadyKeys,
     head: Head,
     counter: u32,
     text: &[u8],
     request: Asked,
     out: &mut [u8],
-) -> Received
+) -> Told
     requires { ⌜ replyRoom longestSent ≤ length (now out) ⌝ }
-    ensures { λ r. ⌜ Follows (challenged (lineOf (meter .line)) secrets head counter (now (text .entry)) request) meter (now (out .entry)) (now (out .exit)) r ⌝ }
+    ensures { λ r. ⌜ TellsUnder keys (λ a. challenged (lineOf line) a head counter (now (text .entry)) request) line (now (out .entry)) (now (out .exit)) r ⌝ }
 {
     if !is_challenge(text, request) {
-        let next = accept_counter(meter.line, counter);
-        return except(meter, next, head, Exception::ServiceNotAllowed, out);
+        let next = accept_counter(line, counter);
+        return except(next, head, Exception::ServiceNotAllowed, out);
     }
     let invoke = request.invoke;
-    let line = meter.line;
-    if proves_itself(line, secrets, counter, text, request) {
-        return prove(meter, secrets, head, invoke, counter, out);
+    if proves_itself(line, keys, counter, text, request) {
+        return prove(line, keys, head, invoke, counter, out);
     }
-    disprove(meter, secrets, head, invoke, counter, out)
+    disprove(line, keys, head, invoke, counter, out)
 }
 
 // Whether a request is the ACTION that answers the challenge.
@@ -136,14 +136,13 @@ fn is_first_method(wanted: Wanted) -> bool
 // Whether the parameter is H's right proof.
 fn proves_itself(
     line: LineState,
-    secrets: Secrets,
+    keys: ReadyKeys,
     counter: u32,
     text: &[u8],
     request: Asked,
 ) -> bool
-    ensures { λ r. ⌜ r ≡ provesItself (lineOf line) secrets counter (now (text .entry)) request ⌝ }
+    ensures { λ r. ⌜ r ≡ rightProof (keysOf keys) (lineOf line .han .peer .title) (meterChallenge (lineOf line .han .peer .association)) (lineOf line .han .counters .accepted) counter (proofIn (now (text .entry)) (request .wanted)) ⌝ }
 {
-    let keys = association::lent_keys(secrets);
     let title = association::title_of(line, Client::Han);
     let challenge = association::meter_challenge(line);
     let han = line.han;
@@ -170,23 +169,21 @@ fn proof_in(text: &[u8], wanted: Wanted) -> &[u8]
 
 // A right proof: the meter's goes out, and H is associated. The proof takes a counter before its envelope.
 fn prove(
-    meter: Meter,
-    secrets: Secrets,
+    line: LineState,
+    keys: ReadyKeys,
     head: Head,
     invoke: u8,
     counter: u32,
     out: &mut [u8],
-) -> Received
+) -> Told
     requires { ⌜ replyRoom longestSent ≤ length (now out) ⌝ }
-    ensures { λ r. ⌜ Follows (proved (lineOf (meter .line)) secrets head invoke counter) meter (now (out .entry)) (now (out .exit)) r ⌝ }
+    ensures { λ r. ⌜ TellsUnder keys (λ a. proved (lineOf line) a head invoke counter) line (now (out .entry)) (now (out .exit)) r ⌝ }
 {
-    let line = meter.line;
     let title = line.title;
     let han = line.han;
     let pair = counters::accept(han.counters, counter);
     let first = counters::take(pair);
     let second = counters::take(first.counters);
-    let keys = association::lent_keys(secrets);
     let challenge = association::client_challenge(line);
     let next = association::associated_ciphered(line, second.counters);
     let count = replies::send_proof(
@@ -199,30 +196,36 @@ fn prove(
         first.number,
         second.number,
     );
-    answered(0, count, next, meter)
+    Told {
+        refusal: 0,
+        count,
+        line: next,
+    }
 }
 
 // A wrong proof: code 250 goes out, and H's association ends.
 fn disprove(
-    meter: Meter,
-    secrets: Secrets,
+    line: LineState,
+    keys: ReadyKeys,
     head: Head,
     invoke: u8,
     counter: u32,
     out: &mut [u8],
-) -> Received
+) -> Told
     requires { ⌜ replyRoom longestSent ≤ length (now out) ⌝ }
-    ensures { λ r. ⌜ Follows (disproved (lineOf (meter .line)) secrets head invoke counter) meter (now (out .entry)) (now (out .exit)) r ⌝ }
+    ensures { λ r. ⌜ TellsUnder keys (λ a. disproved (lineOf line) a head invoke counter) line (now (out .entry)) (now (out .exit)) r ⌝ }
 {
-    let line = meter.line;
     let title = line.title;
     let han = line.han;
     let pair = counters::accept(han.counters, counter);
     let first = counters::take(pair);
-    let keys = association::lent_keys(secrets);
     let advanced = association::with_counters(line, first.counters);
     let next = association::ended(advanced, Client::Han);
     let number = first.number;
     let count = replies::send_denial(out, head, keys, title, invoke, 250, number);
-    answered(13, count, next, meter)
+    Told {
+        refusal: 13,
+        count,
+        line: next,
+    }
 }

@@ -1,15 +1,17 @@
 // An APDU on a link: whether the link is up, what the association permits, then by its tag.
 use crate::Received;
+use crate::Told;
 use crate::ask::ask_enclosed;
 use crate::ask::ask_plain;
 use crate::associate::associate;
 use crate::challenge::hear_challenge;
-use crate::ending::answered;
 use crate::ending::except;
+use crate::ending::joined;
 use crate::links::refuse;
 use cosem::Exception;
 use cosem::Tag;
 use hdlc::Head;
+use line::LineState;
 use meter::Meter;
 use model::Client;
 use protocol::Secrets;
@@ -23,7 +25,7 @@ ghost use Rattle.cosem.specs.Tags.{tagIn};
 ghost use Rattle.line.specs.View.{lineOf};
 ghost use Rattle.meter.specs.View.{view};
 ghost use Rattle.protocol.specs.Decide.{byTag, carried, conversed, released};
-ghost use Rattle.p2.specs.Promise.{Follows};
+ghost use Rattle.p2.specs.Promise.{Follows, requestByte, Tells};
 
 // An APDU.
 pub fn carry(
@@ -39,7 +41,7 @@ pub fn carry(
 {
     let line = meter.line;
     if !association::is_up(line, client) {
-        return refuse(meter, head, out);
+        return joined(refuse(line, head, out), meter);
     }
     converse(meter, secrets, client, head, apdu, out)
 }
@@ -59,13 +61,13 @@ fn converse(
     let line = meter.line;
     let tag = cosem::tag_in(apdu);
     if association::is_unknown(tag) {
-        return except(meter, line, head, Exception::ServiceUnknown, out);
+        return joined(except(line, head, Exception::ServiceUnknown, out), meter);
     }
     if !association::is_permitted(line, client, tag) {
-        return except(meter, line, head, Exception::ServiceNotAllowed, out);
+        return joined(except(line, head, Exception::ServiceNotAllowed, out), meter);
     }
     if !association::is_bit_agreed(line, client, tag) {
-        return except(meter, line, head, Exception::ServiceNotAllowed, out);
+        return joined(except(line, head, Exception::ServiceNotAllowed, out), meter);
     }
     by_tag(meter, secrets, client, head, apdu, tag, out)
 }
@@ -85,29 +87,51 @@ fn by_tag(
 {
     let line = meter.line;
     match tag {
-        Tag::Aarq => associate(meter, secrets, client, head, apdu, out),
-        Tag::Rlrq => release(meter, client, head, apdu, out),
-        Tag::GetRequest => ask_plain(meter, secrets, client, head, apdu, out),
-        Tag::GloActionRequest => hear_challenge(meter, secrets, head, apdu, out),
-        Tag::DedGetRequest => ask_enclosed(meter, secrets, head, 0xD0, apdu, out),
-        Tag::DedActionRequest => ask_enclosed(meter, secrets, head, 0xD3, apdu, out),
-        Tag::SetRequest => except(meter, line, head, Exception::ServiceNotAllowed, out),
-        Tag::ActionRequest => except(meter, line, head, Exception::ServiceNotAllowed, out),
-        Tag::DedSetRequest => except(meter, line, head, Exception::ServiceNotAllowed, out),
-        Tag::Unknown => except(meter, line, head, Exception::ServiceUnknown, out),
+        Tag::Aarq => joined(associate(line, secrets, client, head, apdu, out), meter),
+        Tag::Rlrq => joined(release(line, client, head, apdu, out), meter),
+        Tag::GetRequest => ask_plain(meter, client, head, apdu, out),
+        Tag::GloActionRequest => joined(hear_challenge(line, secrets, head, apdu, out), meter),
+        Tag::DedGetRequest | Tag::DedActionRequest => {
+            ask_enclosed(meter, secrets, head, request_byte(tag), apdu, out)
+        }
+        Tag::SetRequest => joined(except(line, head, Exception::ServiceNotAllowed, out), meter),
+        Tag::ActionRequest => joined(except(line, head, Exception::ServiceNotAllowed, out), meter),
+        Tag::DedSetRequest => joined(except(line, head, Exception::ServiceNotAllowed, out), meter),
+        Tag::Unknown => joined(except(line, head, Exception::ServiceUnknown, out), meter),
+    }
+}
+
+// The tag byte of a request in its envelope: D0 for GET, else D3.
+fn request_byte(tag: Tag) -> u8
+    ensures { λ r. ⌜ r ≡ requestByte tag ⌝ }
+{
+    match tag {
+        Tag::DedGetRequest => 0xD0,
+        Tag::DedActionRequest => 0xD3,
+        Tag::Aarq => 0xD3,
+        Tag::Rlrq => 0xD3,
+        Tag::GetRequest => 0xD3,
+        Tag::SetRequest => 0xD3,
+        Tag::ActionRequest => 0xD3,
+        Tag::GloActionRequest => 0xD3,
+        Tag::DedSetRequest => 0xD3,
+        Tag::Unknown => 0xD3,
     }
 }
 
 // RLRQ: the association ends.
-fn release(meter: Meter, client: Client, head: Head, apdu: &[u8], out: &mut [u8]) -> Received
+fn release(line: LineState, client: Client, head: Head, apdu: &[u8], out: &mut [u8]) -> Told
     requires { ⌜ replyRoom longestSent ≤ length (now out) ⌝ }
-    ensures { λ r. ⌜ Follows (released (lineOf (meter .line)) client head (now (apdu .entry))) meter (now (out .entry)) (now (out .exit)) r ⌝ }
+    ensures { λ r. ⌜ Tells (released (lineOf line) client head (now (apdu .entry))) line (now (out .entry)) (now (out .exit)) r ⌝ }
 {
-    let line = meter.line;
     if !cosem::is_release(apdu) {
-        return except(meter, line, head, Exception::ServiceUnknown, out);
+        return except(line, head, Exception::ServiceUnknown, out);
     }
     let next = association::ended(line, client);
     let count = replies::send_release(out, head);
-    answered(0, count, next, meter)
+    Told {
+        refusal: 0,
+        count,
+        line: next,
+    }
 }

@@ -1,5 +1,6 @@
-// How a call ends: with the meter as it was, with another line, or with an exception.
+// How the line answers: as it was, as another, or with an exception; and the meter that has what it became.
 use crate::Received;
+use crate::Told;
 use cosem::Exception;
 use hdlc::Head;
 use line::LineState;
@@ -8,40 +9,42 @@ ghost use mathlib.Core.Path.{_≡_};
 ghost use Prim.Native.Nat.{_≤_};
 ghost use lib.ListN.{length};
 ghost use Rattle.model.specs.Limits.{longestSent, replyRoom};
-ghost use Rattle.line.specs.View.{lineOf};
-ghost use Rattle.cosem.specs.Tags.{exceptionBytes};
-ghost use Rattle.protocol.specs.Rulings.{apdu, refusalOf, says, Test};
-ghost use Rattle.p2.specs.Promise.{Follows, received, SameAssociations};
+ghost use Rattle.p2.specs.Promise.{Excepts, meterWith, received, told};
 
-// Nothing goes out, and the meter is as it was.
-pub fn kept(refusal: u8, meter: Meter) -> Received
-    ensures { λ r. ⌜ r ≡ received refusal 0 meter ⌝ }
+// Nothing goes out, and the line is as it was.
+pub fn kept(refusal: u8, line: LineState) -> Told
+    ensures { λ r. ⌜ r ≡ told refusal 0 line ⌝ }
 {
-    Received {
+    Told {
         refusal,
         count: 0,
-        meter,
+        line,
     }
 }
 
-// As many bytes of the reply room go out, and the meter has this line.
-pub fn answered(refusal: u8, count: usize, line: LineState, meter: Meter) -> Received
-    ensures { λ r. ⌜ r ≡ received refusal count (record { line = line; body = meter .body }) ⌝ }
+// An exception, and the line becomes this one, with the same associations as before.
+pub fn except(line: LineState, head: Head, e: Exception, out: &mut [u8]) -> Told
+    requires { ⌜ replyRoom longestSent ≤ length (now out) ⌝ }
+    ensures { λ r. ⌜ Excepts e head line (now (out .entry)) (now (out .exit)) r ⌝ }
 {
+    let count = replies::send_exception(out, head, e);
+    Told {
+        refusal: 12,
+        count,
+        line,
+    }
+}
+
+// What the line answered, with the meter: its body is as it was.
+pub fn joined(answer: Told, meter: Meter) -> Received
+    ensures { λ r. ⌜ r ≡ received (answer .refusal) (answer .count) (meterWith (answer .line) (meter .body)) ⌝ }
+{
+    let line = answer.line;
     let body = meter.body;
     let next = Meter { line, body };
     Received {
-        refusal,
-        count,
+        refusal: answer.refusal,
+        count: answer.count,
         meter: next,
     }
-}
-
-// An exception, and the meter has this line, with the same associations.
-pub fn except(meter: Meter, line: LineState, head: Head, e: Exception, out: &mut [u8]) -> Received
-    requires { ⌜ replyRoom longestSent ≤ length (now out) ⌝ }
-    ensures { λ r. ⌜ ((t : Test) → refusalOf t ≡ 12 → SameAssociations (lineOf (meter .line)) (lineOf line) → Follows (says t (apdu head (exceptionBytes e)) (lineOf line)) meter (now (out .entry)) (now (out .exit)) r) ⌝ }
-{
-    let count = replies::send_exception(out, head, e);
-    answered(12, count, line, meter)
 }

@@ -7,8 +7,10 @@ mod converse;
 mod ending;
 mod links;
 
+use ending::joined;
 use ending::kept;
 use hdlc::Frame;
+use line::LineState;
 use meter::Meter;
 use protocol::Secrets;
 ghost use mathlib.Core.Path.{_≡_};
@@ -21,7 +23,7 @@ ghost use Rattle.hdlc.specs.Reading.{readFrame};
 ghost use Rattle.line.specs.View.{lineOf};
 ghost use Rattle.meter.specs.View.{view};
 ghost use Rattle.protocol.specs.Decide.{heard};
-ghost use Rattle.p2.specs.Promise.{Answered, Follows, lent, secretsIn};
+ghost use Rattle.p2.specs.Promise.{Answered, Follows, lent, received, secretsIn};
 
 // The reply room that a call asks for.
 const REPLY_ROOM: usize = 779;
@@ -31,6 +33,13 @@ pub struct Received {
     pub refusal: u8,
     pub count: usize,
     pub meter: Meter,
+}
+
+// What the line answers by itself: the same, with the line. No register, row or clock has a part in it.
+struct Told {
+    refusal: u8,
+    count: usize,
+    line: LineState,
 }
 
 // A frame is received. Refusals 1 to 13.
@@ -45,22 +54,33 @@ pub fn receive(
     ensures { λ r. ⌜ Answered (lent (length (now (reply .entry))) (now (guk .entry)) (now (ak .entry)) (now (challenge .entry)) (now (frame .entry))) meter (now (reply .entry)) (now (reply .exit)) r ⌝ }
 {
     if reply.len() < REPLY_ROOM {
-        return kept(1, meter);
+        return refused(1, meter);
     }
     if guk.len() != 16 {
-        return kept(2, meter);
+        return refused(2, meter);
     }
     if ak.len() != 16 {
-        return kept(2, meter);
+        return refused(2, meter);
     }
     if challenge.len() != 8 {
-        return kept(2, meter);
+        return refused(2, meter);
     }
     if !meter::is_sound(meter) {
-        return kept(3, meter);
+        return refused(3, meter);
     }
     let secrets = secrets_of(guk, ak, challenge);
     hear(meter, secrets, frame, reply)
+}
+
+// Nothing goes out, and the very meter comes back.
+fn refused(refusal: u8, meter: Meter) -> Received
+    ensures { λ r. ⌜ r ≡ received refusal 0 meter ⌝ }
+{
+    Received {
+        refusal,
+        count: 0,
+        meter,
+    }
 }
 
 // What is lent, as arrays; zeros where there are fewer bytes.
@@ -85,16 +105,20 @@ fn hear(meter: Meter, secrets: Secrets, frame: &[u8], out: &mut [u8]) -> Receive
     requires { ⌜ (sound (view meter) ≡ true) × (replyRoom longestSent ≤ length (now out)) ⌝ }
     ensures { λ r. ⌜ Follows (heard (lineOf (meter .line)) secrets (now (frame .entry)) (readFrame (now (frame .entry)))) meter (now (out .entry)) (now (out .exit)) r ⌝ }
 {
+    let line = meter.line;
     let read = hdlc::read_frame(frame);
     match read {
-        Frame::Unanswered(test) => kept(hdlc::number_of(test), meter),
-        Frame::Rejected(test, head) => links::reject(meter, head, test, out),
+        Frame::Unanswered(test) => joined(kept(hdlc::number_of(test), line), meter),
+        Frame::Rejected(test, head) => joined(links::reject(line, head, test, out), meter),
         Frame::LinkUp {
             client,
             head,
             information,
-        } => links::link_up(meter, client, head, information, out),
-        Frame::LinkDown { client, head } => links::link_down(meter, client, head, out),
+        } => joined(links::link_up(line, client, head, information, out), meter),
+        Frame::LinkDown { client, head } => joined(
+            links::link_down(line, client, head, out),
+            meter,
+        ),
         Frame::Apdu {
             client,
             head,

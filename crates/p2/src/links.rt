@@ -1,9 +1,8 @@
 // Links: frames that are refused by FRMR or DM, links that come up and go down.
-use crate::Received;
-use crate::ending::answered;
+use crate::Told;
 use hdlc::FrameTest;
 use hdlc::Head;
-use meter::Meter;
+use line::LineState;
 use model::Client;
 ghost use mathlib.Core.Path.{_≡_};
 ghost use Prim.Native.Nat.{_≤_};
@@ -12,67 +11,73 @@ ghost use Rattle.model.specs.Limits.{longestSent, replyRoom};
 ghost use Rattle.line.specs.View.{lineOf};
 ghost use Rattle.protocol.specs.Rulings.{Test, dm, frame, refusalOf, reject as frmr, says};
 ghost use Rattle.protocol.specs.Decide.{linkDown, linkUp};
-ghost use Rattle.p2.specs.Promise.{Follows};
+ghost use Rattle.p2.specs.Promise.{Tells};
 
 // FRMR.
-pub fn reject(meter: Meter, head: Head, test: FrameTest, out: &mut [u8]) -> Received
+pub fn reject(line: LineState, head: Head, test: FrameTest, out: &mut [u8]) -> Told
     requires { ⌜ replyRoom longestSent ≤ length (now out) ⌝ }
-    ensures { λ r. ⌜ Follows (says (frame test) (frmr head test) (lineOf (meter .line))) meter (now (out .entry)) (now (out .exit)) r ⌝ }
+    ensures { λ r. ⌜ Tells (says (frame test) (frmr head test) (lineOf line)) line (now (out .entry)) (now (out .exit)) r ⌝ }
 {
     let count = hdlc::put_frmr(out, head, test);
-    Received {
+    Told {
         refusal: hdlc::number_of(test),
         count,
-        meter,
+        line,
     }
 }
 
 // DM: a link is not possible, or down.
-pub fn refuse(meter: Meter, head: Head, out: &mut [u8]) -> Received
+pub fn refuse(line: LineState, head: Head, out: &mut [u8]) -> Told
     requires { ⌜ replyRoom longestSent ≤ length (now out) ⌝ }
-    ensures { λ r. ⌜ ((t : Test) → refusalOf t ≡ 10 → Follows (says t (dm head) (lineOf (meter .line))) meter (now (out .entry)) (now (out .exit)) r) ⌝ }
+    ensures { λ r. ⌜ ((t : Test) → refusalOf t ≡ 10 → Tells (says t (dm head) (lineOf line)) line (now (out .entry)) (now (out .exit)) r) ⌝ }
 {
     let count = hdlc::put_dm(out, head);
-    Received {
+    Told {
         refusal: 10,
         count,
-        meter,
+        line,
     }
 }
 
 // A link is to come up.
 pub fn link_up(
-    meter: Meter,
+    line: LineState,
     client: Client,
     head: Head,
     information: bool,
     out: &mut [u8],
-) -> Received
+) -> Told
     requires { ⌜ replyRoom longestSent ≤ length (now out) ⌝ }
-    ensures { λ r. ⌜ Follows (linkUp (lineOf (meter .line)) client head information) meter (now (out .entry)) (now (out .exit)) r ⌝ }
+    ensures { λ r. ⌜ Tells (linkUp (lineOf line) client head information) line (now (out .entry)) (now (out .exit)) r ⌝ }
 {
-    let line = meter.line;
     if information {
-        return refuse(meter, head, out);
+        return refuse(line, head, out);
     }
     if association::is_held_by_p5(line, client) {
-        return refuse(meter, head, out);
+        return refuse(line, head, out);
     }
     let next = association::with_link(line, client, true);
     let count = hdlc::put_ua(out, head);
-    answered(0, count, next, meter)
+    Told {
+        refusal: 0,
+        count,
+        line: next,
+    }
 }
 
 // A link is to go down.
-pub fn link_down(meter: Meter, client: Client, head: Head, out: &mut [u8]) -> Received
+pub fn link_down(line: LineState, client: Client, head: Head, out: &mut [u8]) -> Told
     requires { ⌜ replyRoom longestSent ≤ length (now out) ⌝ }
-    ensures { λ r. ⌜ Follows (linkDown (lineOf (meter .line)) client head) meter (now (out .entry)) (now (out .exit)) r ⌝ }
+    ensures { λ r. ⌜ Tells (linkDown (lineOf line) client head) line (now (out .entry)) (now (out .exit)) r ⌝ }
 {
-    let line = meter.line;
     if !association::is_up(line, client) {
-        return refuse(meter, head, out);
+        return refuse(line, head, out);
     }
     let next = association::with_link(line, client, false);
     let count = hdlc::put_ua(out, head);
-    answered(0, count, next, meter)
+    Told {
+        refusal: 0,
+        count,
+        line: next,
+    }
 }

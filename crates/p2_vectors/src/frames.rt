@@ -3,7 +3,7 @@ use crate::call::AK;
 use crate::call::GUK;
 use crate::report;
 use crate::report::decode;
-use envelope::Keys;
+use envelope::ReadyKeys;
 use wire::Field;
 
 // Who sends a frame to whom: the title, the addresses, and the second byte of LLC.
@@ -110,7 +110,7 @@ fn closed(sender: Sender, tag: u8, counter: u32, text: &[u8], n: usize, out: &mu
     let title = sender.title;
     let start = 11 + envelope::head_size(n);
     wire::put_all(out, start, text);
-    let end = envelope::close_envelope(out, 11, keys(), title, tag, counter, n);
+    let end = envelope::close_envelope(out, 11, keys_for(tag), title, tag, counter, n);
     framed(sender, out, end)
 }
 
@@ -159,10 +159,11 @@ pub fn repair(f: &mut [u8], n: usize) {
     wire::put_u16_low_first(f, n - 3, all);
 }
 
-fn keys() -> Keys {
-    Keys {
-        guk: GUK,
-        ak: AK,
-        dedicated: *b"\x00\x11\x22\x33\x44\x55\x66\x77\x88\x99\xAA\xBB\xCC\xDD\xEE\xFF",
+// GUK goes with the challenge's tags, the dedicated key with all others.
+fn keys_for(tag: u8) -> ReadyKeys {
+    let dedicated = *b"\x00\x11\x22\x33\x44\x55\x66\x77\x88\x99\xAA\xBB\xCC\xDD\xEE\xFF";
+    match tag {
+        0xCB | 0xCF => envelope::ready_keys(GUK, AK),
+        _ => envelope::ready_keys(dedicated, AK),
     }
 }

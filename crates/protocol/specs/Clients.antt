@@ -3,7 +3,6 @@
 use mathlib.Core.Bool.{Bool, true, false, not, _&&_}
 use mathlib.Core.List.{List}
 use Prim.Native.Nat.{ℕ}
-use lib.ListN.{replicate}
 use Rattle.model.specs.declared.Client.{Client}
 use Rattle.model.specs.declared.Client.the-variants.{Verification, Han}
 use Rattle.model.specs.declared.Counters.{Counters}
@@ -12,8 +11,9 @@ use Rattle.model.specs.State.{Association, none, pending, associated, Peer, Lin
 use Rattle.model.specs.Soundness.{isNone}
 use Rattle.cosem.specs.declared.Tag.{Tag}
 use Rattle.cosem.specs.declared.Tag.the-variants.{Aarq, Rlrq, GetRequest, SetRequest, ActionRequest, GloActionRequest, DedGetRequest, DedSetRequest, DedActionRequest, Unknown}
+pub use Rattle.line.specs.Canonical.{agreedIn, keyIn, clientChallenge, meterChallenge}
 use Rattle.acse.specs.Clients.{ciphers}
-use Rattle.envelope.specs.declared.Keys.{Keys}
+use Rattle.envelope.specs.Layout.{Keys, keysFrom}
 use Rattle.protocol.specs.declared.Secrets.{Secrets}
 
 -- A client's part of the line.
@@ -43,41 +43,18 @@ abbrev pub withCounters : Counters → Line → Line
 withCounters n l =
     record { title = l .title; verification = l .verification; han = record { peer = l .han .peer; counters = n }; p5 = l .p5 }
 
--- What an association holds; zeros where it holds no such bytes.
-
-abbrev pub agreedIn : Association → List ℕ
-agreedIn none = replicate 3 0
-agreedIn (pending a k c s) = a
-agreedIn (associated a k) = a
-
-abbrev pub keyIn : Association → List ℕ
-keyIn none = replicate 16 0
-keyIn (pending a k c s) = k
-keyIn (associated a k) = k
-
--- H's challenge, and the meter's
-abbrev pub clientChallenge : Association → List ℕ
-clientChallenge none = replicate 8 0
-clientChallenge (pending a k c s) = c
-clientChallenge (associated a k) = replicate 8 0
-
-abbrev pub meterChallenge : Association → List ℕ
-meterChallenge none = replicate 8 0
-meterChallenge (pending a k c s) = s
-meterChallenge (associated a k) = replicate 8 0
-
 abbrev pub selectiveIn : Client → Line → Bool
 selectiveIn c l = within selectiveAccess (agreedIn (peer c l .association))
 
--- The keys of H, the one client that ciphers; zeros for a key that has no part.
+-- The keys of H, the one client that ciphers.
 
 -- "GUK for 21, 28, CB, CF"
 abbrev pub lentKeys : Secrets → Keys
-lentKeys a = record { guk = a .guk; ak = a .ak; dedicated = replicate 16 0 }
+lentKeys a = keysFrom (a .guk) (a .ak)
 
 -- "the dedicated key for D0, D3 (requests) and D4, D7 (answers)"
 abbrev pub dedicatedKeys : (ak : List ℕ) → Line → Keys
-dedicatedKeys ak l = record { guk = replicate 16 0; ak = ak; dedicated = keyIn (l .han .peer .association) }
+dedicatedKeys ak l = keysFrom (keyIn (l .han .peer .association)) ak
 
 -- What is permitted.
 

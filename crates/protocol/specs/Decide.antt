@@ -38,8 +38,7 @@ use Rattle.acse.specs.Aarq.{readAarq}
 use Rattle.acse.specs.Aare.{plainAare, cipheredAareHead}
 use Rattle.counters.specs.Advance.{taken}
 use Rattle.counters.specs.Window.{inWindow, accepting}
-use Rattle.envelope.specs.declared.Keys.{Keys}
-use Rattle.envelope.specs.Layout.{sealedEnvelope}
+use Rattle.envelope.specs.Layout.{Keys, sealedEnvelope}
 use Rattle.envelope.specs.Opening.{Opened, fails, opens, opened}
 use Rattle.envelope.specs.Challenge.{rightProof, proofValue}
 use Rattle.protocol.specs.declared.Secrets.{Secrets}

@@ -1,7 +1,7 @@
 // Replies in an envelope: the text is laid out behind the room for the head of its envelope, and sealed where it stands.
 use crate::APDU_AT;
 use crate::TEXT_AT;
-use envelope::Keys;
+use envelope::ReadyKeys;
 use hdlc::Head;
 use model::Client;
 ghost use mathlib.Core.List.{_++_};
@@ -12,7 +12,7 @@ ghost use Rattle.model.specs.Objects.{actionAnswer, denied};
 ghost use Rattle.hdlc.specs.Replies.{apduFrame, Sent};
 ghost use Rattle.acse.specs.Aare.{cipheredAareHead};
 ghost use Rattle.acse.specs.Initiate.{initiateResponse};
-ghost use Rattle.envelope.specs.Layout.{headSize, sealedEnvelope};
+ghost use Rattle.envelope.specs.Layout.{headSize, keysOf, sealedEnvelope};
 ghost use Rattle.protocol.specs.Decide.{provedText};
 
 // How many bytes each text has that is not the caller's: an initiate response, an answer with a proof, one that denies.
@@ -27,14 +27,14 @@ pub fn send_accepted_ciphered(
     out: &mut [u8],
     head: Head,
     client: Client,
-    keys: Keys,
+    keys: ReadyKeys,
     title: [u8; 8],
     challenge: [u8; 8],
     agreed: [u8; 3],
     counter: u32,
 ) -> usize
     requires { ⌜ replyRoom longestSent ≤ length (now out) ⌝ }
-    ensures { λ r. ⌜ Sent (apduFrame head (cipheredAareHead client title challenge ++ sealedEnvelope keys title 0x28 counter (initiateResponse agreed))) (now (out .entry)) (now (out .exit)) r ⌝ }
+    ensures { λ r. ⌜ Sent (apduFrame head (cipheredAareHead client title challenge ++ sealedEnvelope (keysOf keys) title 0x28 counter (initiateResponse agreed))) (now (out .entry)) (now (out .exit)) r ⌝ }
 {
     let at = hdlc::put_llc(out);
     let start = acse::put_accepted_head(out, at, client, &title, &challenge);
@@ -49,7 +49,7 @@ pub fn send_accepted_ciphered(
 pub fn send_proof(
     out: &mut [u8],
     head: Head,
-    keys: Keys,
+    keys: ReadyKeys,
     title: [u8; 8],
     challenge: [u8; 8],
     invoke: u8,
@@ -57,7 +57,7 @@ pub fn send_proof(
     second: u32,
 ) -> usize
     requires { ⌜ replyRoom longestSent ≤ length (now out) ⌝ }
-    ensures { λ r. ⌜ Sent (apduFrame head (sealedEnvelope keys title 0xCF second (provedText keys title challenge invoke first))) (now (out .entry)) (now (out .exit)) r ⌝ }
+    ensures { λ r. ⌜ Sent (apduFrame head (sealedEnvelope (keysOf keys) title 0xCF second (provedText (keysOf keys) title challenge invoke first))) (now (out .entry)) (now (out .exit)) r ⌝ }
 {
     let text = APDU_AT + envelope::head_size(PROVED_SIZE);
     let value = wire::put_all(out, text, &[0xC7, 0x01, invoke, 0x00, 0x01, 0x00]);
@@ -69,14 +69,14 @@ pub fn send_proof(
 pub fn send_denial(
     out: &mut [u8],
     head: Head,
-    keys: Keys,
+    keys: ReadyKeys,
     title: [u8; 8],
     invoke: u8,
     code: u8,
     counter: u32,
 ) -> usize
     requires { ⌜ replyRoom longestSent ≤ length (now out) ⌝ }
-    ensures { λ r. ⌜ Sent (apduFrame head (sealedEnvelope keys title 0xCF counter (actionAnswer invoke (denied code)))) (now (out .entry)) (now (out .exit)) r ⌝ }
+    ensures { λ r. ⌜ Sent (apduFrame head (sealedEnvelope (keysOf keys) title 0xCF counter (actionAnswer invoke (denied code)))) (now (out .entry)) (now (out .exit)) r ⌝ }
 {
     let text = APDU_AT + envelope::head_size(DENIED_SIZE);
     wire::put_all(out, text, &[0xC7, 0x01, invoke, code, 0x00]);
@@ -88,14 +88,14 @@ pub fn send_denial(
 pub fn send_enclosed(
     out: &mut [u8],
     head: Head,
-    keys: Keys,
+    keys: ReadyKeys,
     title: [u8; 8],
     tag: u8,
     counter: u32,
     n: usize,
 ) -> usize
     requires { ⌜ (replyRoom longestSent ≤ length (now out)) × (n ≤ textRoom longestSent) ⌝ }
-    ensures { λ r. ⌜ Sent (apduFrame head (sealedEnvelope keys title tag counter (take n (drop 20 (now (out .entry)))))) (now (out .entry)) (now (out .exit)) r ⌝ }
+    ensures { λ r. ⌜ Sent (apduFrame head (sealedEnvelope (keysOf keys) title tag counter (take n (drop 20 (now (out .entry)))))) (now (out .entry)) (now (out .exit)) r ⌝ }
 {
     let text = APDU_AT + envelope::head_size(n);
     wire::move_down(out, TEXT_AT, text, n);
@@ -106,14 +106,14 @@ pub fn send_enclosed(
 fn close_and_send(
     out: &mut [u8],
     head: Head,
-    keys: Keys,
+    keys: ReadyKeys,
     title: [u8; 8],
     tag: u8,
     counter: u32,
     n: usize,
 ) -> usize
     requires { ⌜ (replyRoom longestSent ≤ length (now out)) × (n ≤ textRoom longestSent) ⌝ }
-    ensures { λ r. ⌜ Sent (apduFrame head (sealedEnvelope keys title tag counter (take n (drop (11 + headSize n) (now (out .entry)))))) (now (out .entry)) (now (out .exit)) r ⌝ }
+    ensures { λ r. ⌜ Sent (apduFrame head (sealedEnvelope (keysOf keys) title tag counter (take n (drop (11 + headSize n) (now (out .entry)))))) (now (out .entry)) (now (out .exit)) r ⌝ }
 {
     let at = hdlc::put_llc(out);
     let end = envelope::close_envelope(out, at, keys, title, tag, counter, n);

@@ -5,9 +5,9 @@ use crate::report::compare;
 use crate::report::decode;
 use crate::report::first;
 use envelope::Admission;
-use envelope::Keys;
 use envelope::LONGEST_APDU;
 use envelope::Opening;
+use envelope::ReadyKeys;
 use model::Counters;
 ghost use Prim.Native.Nat.{_≤_};
 
@@ -142,8 +142,23 @@ fn answered() {
     let sealing = counters::take(between);
     let at = 11 + envelope::head_size(25);
     let value = wire::put_all(&mut room, at, b"\xC7\x01\xC1\x00\x01\x00");
-    envelope::put_proof(&mut room, value, keys(), METER, HAN_CHALLENGE, proof.number);
-    let end = envelope::close_envelope(&mut room, 11, keys(), METER, 0xCF, sealing.number, 25);
+    envelope::put_proof(
+        &mut room,
+        value,
+        keys_for(0xCF),
+        METER,
+        HAN_CHALLENGE,
+        proof.number,
+    );
+    let end = envelope::close_envelope(
+        &mut room,
+        11,
+        keys_for(0xCF),
+        METER,
+        0xCF,
+        sealing.number,
+        25,
+    );
     let n = decode(
         b"CF 2A 30 00 00 00 03 BC C2 9B B9 9B 74 6A 2E CC 67 52 5F 54 FB 50 95 58 79 DA B0 EC FF A6 CD E1 1B 35 \
             90 20 39 8A 50 8C DA D9 3E 1C",
@@ -270,7 +285,7 @@ fn opened(
     let n = decode(frame, &mut f);
     let m = decode(text, &mut want);
     let apdu = part(&f, at, apdu_end(at, n));
-    match envelope::open_envelope(keys(), title, tag, apdu, &mut out) {
+    match envelope::open_envelope(keys_for(tag), title, tag, apdu, &mut out) {
         Opening::Fails => compare(name, b"", first(&want, m)),
         Opening::Opens { counter: got, size } => {
             compare(name, first(&out, size), first(&want, m));
@@ -302,7 +317,7 @@ fn opens_changed(title: [u8; 8], tag: u8, at: usize, end: usize, mut f: [u8; 128
         return 0;
     }
     f[i] = f[i] ^ 1;
-    match envelope::open_envelope(keys(), title, tag, part(&f, at, end), &mut out) {
+    match envelope::open_envelope(keys_for(tag), title, tag, part(&f, at, end), &mut out) {
         Opening::Fails => 0,
         Opening::Opens {
             counter: _,
@@ -321,7 +336,7 @@ fn closed(name: &[u8], tag: u8, counter: u32, at: u8, text: &[u8], apdu: &[u8]) 
     let start = at as usize;
     let behind = start + envelope::head_size(n);
     wire::put_all(&mut room, behind, &plain[0..n]);
-    let end = envelope::close_envelope(&mut room, start, keys(), METER, tag, counter, n);
+    let end = envelope::close_envelope(&mut room, start, keys_for(tag), METER, tag, counter, n);
     compare(name, part(&room, start, end), first(&want, m));
 }
 
@@ -332,7 +347,7 @@ fn admitted(name: &[u8], tag: u8, frame: &[u8], accepted: u32, refusal: u32) {
     let n = decode(frame, &mut f);
     let apdu = part(&f, 11, apdu_end(11, n));
     let pair = Counters { accepted, sent: 0 };
-    let got = match envelope::admit_envelope(keys(), HAN, tag, pair, apdu, &mut out) {
+    let got = match envelope::admit_envelope(keys_for(tag), HAN, tag, pair, apdu, &mut out) {
         Admission::Unopened => 6,
         Admission::OutsideWindow => 7,
         Admission::Admitted {
@@ -356,7 +371,7 @@ fn proved(
     let mut v = [0u8; 64];
     let n = decode(value, &mut v);
     let pair = Counters { accepted, sent: 0 };
-    let ok = envelope::is_right_proof(keys(), title, challenge, pair, outer, first(&v, n));
+    let ok = envelope::is_right_proof(keys_for(0xCB), title, challenge, pair, outer, first(&v, n));
     same_number(name, as_number(ok), right);
 }
 
@@ -365,7 +380,7 @@ fn made(name: &[u8], title: [u8; 8], challenge: [u8; 8], counter: u32, value: &[
     let mut v = [0u8; 64];
     let mut room = [0u8; 64];
     let n = decode(value, &mut v);
-    let end = envelope::put_proof(&mut room, 0, keys(), title, challenge, counter);
+    let end = envelope::put_proof(&mut room, 0, keys_for(0xCF), title, challenge, counter);
     compare(name, first(&room, end), first(&v, n));
 }
 
@@ -379,14 +394,14 @@ fn counted(name: &[u8], accepted: u32, counter: u32, inside: u32) {
     );
 }
 
-fn keys() -> Keys {
-    Keys {
-        guk: gcm::first_16(b"\x00\x01\x02\x03\x04\x05\x06\x07\x08\x09\x0A\x0B\x0C\x0D\x0E\x0F"),
-        ak: gcm::first_16(b"\xD0\xD1\xD2\xD3\xD4\xD5\xD6\xD7\xD8\xD9\xDA\xDB\xDC\xDD\xDE\xDF"),
-        dedicated: gcm::first_16(
-            b"\x00\x11\x22\x33\x44\x55\x66\x77\x88\x99\xAA\xBB\xCC\xDD\xEE\xFF",
-        ),
-    }
+// The keys of the association, by the tag of an envelope: the dedicated key around requests and their answers, else GUK.
+fn keys_for(tag: u8) -> ReadyKeys {
+    let ak = *b"\xD0\xD1\xD2\xD3\xD4\xD5\xD6\xD7\xD8\xD9\xDA\xDB\xDC\xDD\xDE\xDF";
+    let key = match tag {
+        0xD0 | 0xD4 => *b"\x00\x11\x22\x33\x44\x55\x66\x77\x88\x99\xAA\xBB\xCC\xDD\xEE\xFF",
+        _ => *b"\x00\x01\x02\x03\x04\x05\x06\x07\x08\x09\x0A\x0B\x0C\x0D\x0E\x0F",
+    };
+    envelope::ready_keys(key, ak)
 }
 
 // The bytes from `a` to `e`; none where there are not as many.

@@ -58,11 +58,14 @@ pub fn put_all(out: &mut [u8], at: usize, s: &[u8]) -> usize
     at + i
 }
 
-// The `n` bytes that stand at `from`, moved down to `to`.
+// The `n` bytes that stand at `from`, moved down to `to`. Where the two are one place, the bytes stand there already.
 pub fn move_down(out: &mut [u8], from: usize, to: usize, n: usize) -> usize
     requires { ⌜ (to ≤ from) × (from + n ≤ length (now out)) ⌝ }
     ensures { λ r. ⌜ Wrote (now (out .entry)) to (now (out .exit)) r (take n (drop from (now (out .entry)))) ⌝ }
 {
+    if to == from {
+        return to + n;
+    }
     let mut i = 0;
     while i < n {
         out[to + i] = out[from + i];

@@ -9,10 +9,10 @@ use Rattle.aes.proofs.run_rounds.Statement.{statement}
 use Rattle.aes.proofs.run_rounds.Tie as tie
 
 abbrev Inv-loop : tie.InvT-loop
-Inv-loop t d w s₀ i₀ s i = (i ≤ 9) × (s ≡ rounds i w s₀)
+Inv-loop c w s₀ i₀ s i = (i ≤ 9) × (s ≡ rounds i w s₀)
 
 abbrev μ-loop : tie.MeasureT-loop
-μ-loop t d w s₀ i₀ s i = 9 - i
+μ-loop c w s₀ i₀ s i = 9 - i
 
 loop-holds : tie.Need-loop-holds Inv-loop μ-loop
 unfolding rounds

@@ -9,7 +9,7 @@ returns c =
     let c3 = c .before .before in
     let c2 = c3 .before .before in
     let c1 = c2 .before .before in
-    same4 (c1 .sub-word .ensures) (c2 .sub-word2 .ensures) (c3 .sub-word3 .ensures) (c .sub-word4 .ensures)
+    same4 (c1 .sub-column .ensures) (c2 .sub-column2 .ensures) (c3 .sub-column3 .ensures) (c .sub-column4 .ensures)
 
 pub sub-bytes-spec : {M : Type 1} → statement M
 sub-bytes-spec =

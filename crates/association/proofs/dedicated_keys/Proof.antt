@@ -1,4 +1,8 @@
 -- `association::dedicated_keys` meets its contract.
+use mathlib.Core.Path.{ap, _∙_}
+use mathlib.Core.List.{List}
+use Prim.Native.Nat.{ℕ}
+use Rattle.envelope.specs.Layout.{keysFrom}
 use Rattle.line.specs.View.{lineOf}
 use borrow.Author.Needs.{needs}
 use Rattle.association.proofs.dedicated_keys.Statement.{statement}
@@ -6,7 +10,7 @@ use Rattle.association.proofs.dedicated_keys.Tie as tie
 
 returns : tie.Need-returns
 unfolding lineOf
-returns c = rw (c .key-in .ensures)
+returns c = c .ready-keys .ensures ∙ ap (λ (k : List ℕ). keysFrom k (c .before .before .before .args .ak)) (c .before .key-in .ensures)
 
 pub dedicated-keys-spec : {M : Type 1} → statement M
-dedicated-keys-spec = tie.close (tie.spec (λ c κs. search needs) returns)
+dedicated-keys-spec = tie.close (tie.spec (λ c κs. search needs) (λ c κs. search needs) returns)

@@ -6,11 +6,35 @@ use Rattle.capi.proofs.birlimock_give_registers.Statement.{statement}
 use Rattle.capi.proofs.birlimock_give_registers.Tie as tie
 
 returns : tie.Need-returns
-returns c = owner-refused (c .before .before .are-registers .ensures) (c .before .before .before .read-image .ensures) (c .before .own-refusal .ensures) (c .if1 .taken)
+returns c =
+    let at-refusal-of = c .before in
+    let at-are-registers = at-refusal-of .before in
+    owner-refused (at-are-registers .are-registers .ensures) (at-refusal-of .refusal-of .ensures) (c .if1 .taken)
 
 returns-2 : tie.Need-returns-2
 returns-2 c =
-    owner-called (c .before .before .before .before .before .before .before .before .before .are-registers .ensures) (c .before .before .before .before .before .before .before .before .before .before .read-image .ensures) (c .before .before .before .before .before .before .before .before .own-refusal .ensures) (c .before .before .before .before .before .before .before .if1 .left) (λ _. registers-given (c .before .before .before .before .before .before .registers-in .ensures) (c .before .before .before .before .give-registers .ensures)) (c .before .before .end .ensures)
+    let at-end = c .before .before in
+    let at-give-registers = at-end .before .before in
+    let at-meter-in = at-give-registers .before in
+    let at-registers-in = at-meter-in .before .before in
+    let at-if1 = at-registers-in .before in
+    let at-refusal-of = at-if1 .before in
+    let at-are-registers = at-refusal-of .before in
+    owner-called (at-are-registers .are-registers .ensures) (at-refusal-of .refusal-of .ensures) (at-if1 .if1 .left) (at-meter-in .meter-in .ensures)
+    (λ _. registers-given (at-registers-in .registers-in .ensures) (at-give-registers .give-registers .ensures))
+    (at-end .end .ensures)
 
 pub birlimock-give-registers-spec : {M : Type 1} → statement M
-birlimock-give-registers-spec = tie.close (tie.spec (λ c κs. search needs) (λ c κs. search needs) (λ c κs. search needs) (λ c. search needs) returns (λ c κs. search needs) (λ c κs. search needs) (λ c κs. search needs) (λ c. search needs) returns-2)
+birlimock-give-registers-spec =
+    tie.close
+    (tie.spec
+    (λ c κs. search needs)
+    (λ c κs. search needs)
+    (λ c. search needs)
+    returns
+    (λ c κs. search needs)
+    (λ c κs. search needs)
+    (λ c κs. search needs)
+    (λ c κs. search needs)
+    (λ c. search needs)
+    returns-2)

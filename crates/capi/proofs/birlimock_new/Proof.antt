@@ -8,19 +8,49 @@ use Rattle.capi.proofs.birlimock_new.Statement.{statement}
 use Rattle.capi.proofs.birlimock_new.Tie as tie
 
 returns : tie.Need-returns
-returns c = new-short (λ e. c .if1 .taken (e ∙ sizes .image-size))
+returns c =
+    new-short (λ e. c .if1 .taken (e ∙ sizes .image-size))
 
 returns-2 : tie.Need-returns-2
 returns-2 c =
-    new-wrong (c .before .before .before .if1 .left ∙ sym (sizes .image-size)) (c .before .argument-refusal .ensures ∙ ap argumentRefusal (c .before .before .are-sized .ensures)) (c .if2 .taken)
+    let at-argument-refusal = c .before in
+    let at-are-sized = at-argument-refusal .before in
+    let at-if1 = at-are-sized .before in
+    new-wrong (at-if1 .if1 .left ∙ sym (sizes .image-size)) (at-argument-refusal .argument-refusal .ensures ∙ ap argumentRefusal (at-are-sized .are-sized .ensures)) (c .if2 .taken)
 
 returns-3 : tie.Need-returns-3
 returns-3 c =
-    let a = c .before .before .before .before .before .before .before .before .before .before .before .before .before .before .before .before .before .before .args in
-    let none = sym (c .before .before .before .before .before .before .before .before .before .before .argument-refusal .ensures ∙ ap argumentRefusal (c .before .before .before .before .before .before .before .before .before .before .before .are-sized .ensures)) ∙ c .before .before .before .before .before .before .before .before .before .if2 .left in
-    new-called (c .before .before .before .before .before .before .before .before .before .before .before .before .if1 .left ∙ sym (sizes .image-size)) none
-    (c .before .before .before .before .new .ensures ∙ new-given (a .device .now) (a .title .now) (a .v-title .now) (a .h-title .now) none (c .before .before .before .before .before .before .before .before .sixteen-of .ensures) (c .before .before .before .before .before .before .before .eight-of .ensures) (c .before .before .before .before .before .before .eight-of2 .ensures) (c .before .before .before .before .before .eight-of3 .ensures))
-    (c .before .before .write-image .ensures)
+    let at-write-image = c .before .before in
+    let at-cleared = at-write-image .before .before in
+    let at-new = at-cleared .before in
+    let at-eight-of3 = at-new .before in
+    let at-eight-of2 = at-eight-of3 .before in
+    let at-eight-of = at-eight-of2 .before in
+    let at-sixteen-of = at-eight-of .before in
+    let at-if2 = at-sixteen-of .before in
+    let at-argument-refusal = at-if2 .before in
+    let at-are-sized = at-argument-refusal .before in
+    let at-if1 = at-are-sized .before in
+    let s = at-if1 .before .before .before .before .before .before in
+    let a = s .args in
+    let none = sym (at-argument-refusal .argument-refusal .ensures ∙ ap argumentRefusal (at-are-sized .are-sized .ensures)) ∙ at-if2 .if2 .left in
+    let given = new-given (a .device .now) (a .title .now) (a .v-title .now) (a .h-title .now) none (at-sixteen-of .sixteen-of .ensures) (at-eight-of .eight-of .ensures) (at-eight-of2 .eight-of2 .ensures) (at-eight-of3 .eight-of3 .ensures) in
+    new-called (at-if1 .if1 .left ∙ sym (sizes .image-size)) none (at-new .new .ensures ∙ given) (at-cleared .cleared .ensures) (at-write-image .write-image .ensures)
 
 pub birlimock-new-spec : {M : Type 1} → statement M
-birlimock-new-spec = tie.close (tie.spec returns (λ c κs. search needs) (λ c κs. search needs) returns-2 (λ c κs. search needs) (λ c κs. search needs) (λ c κs. search needs) (λ c κs. search needs) (λ c κs. search needs) (λ c κs. search needs) (λ c. search needs) returns-3)
+birlimock-new-spec =
+    tie.close
+    (tie.spec
+    returns
+    (λ c κs. search needs)
+    (λ c κs. search needs)
+    returns-2
+    (λ c κs. search needs)
+    (λ c κs. search needs)
+    (λ c κs. search needs)
+    (λ c κs. search needs)
+    (λ c κs. search needs)
+    (λ c κs. search needs)
+    (λ c κs. search needs)
+    (λ c. search needs)
+    returns-3)

@@ -5,10 +5,31 @@ use Rattle.capi.proofs.birlimock_receive.Statement.{statement}
 use Rattle.capi.proofs.birlimock_receive.Tie as tie
 
 returns : tie.Need-returns
-returns c = frame-refused (c .before .before .read-image .ensures) (c .before .own-refusal .ensures) (c .if1 .taken)
+returns c =
+    let at-refusal-of = c .before in
+    frame-refused (at-refusal-of .refusal-of .ensures) (c .if1 .taken)
 
 returns-2 : tie.Need-returns-2
-returns-2 c = frame-called (c .before .before .before .before .before .before .before .before .before .before .before .read-image .ensures) (c .before .before .before .before .before .before .before .before .before .before .own-refusal .ensures) (c .before .before .before .before .before .before .before .before .before .if1 .left) (c .before .before .before .before .before .before .receive .ensures) (c .before .before .frame-end .ensures)
+returns-2 c =
+    let at-frame-end = c .before .before in
+    let at-receive = at-frame-end .before .before .before .before in
+    let at-meter-in = at-receive .before .before in
+    let at-if1 = at-meter-in .before .before in
+    let at-refusal-of = at-if1 .before in
+    frame-called (at-refusal-of .refusal-of .ensures) (at-if1 .if1 .left) (at-meter-in .meter-in .ensures)
+    (at-receive .receive .ensures)
+    (at-frame-end .frame-end .ensures)
 
 pub birlimock-receive-spec : {M : Type 1} → statement M
-birlimock-receive-spec = tie.close (tie.spec (λ c κs. search needs) (λ c κs. search needs) (λ c. search needs) returns (λ c κs. search needs) (λ c κs. search needs) (λ c. search needs) (λ c. search needs) returns-2)
+birlimock-receive-spec =
+    tie.close
+    (tie.spec
+    (λ c κs. search needs)
+    (λ c. search needs)
+    returns
+    (λ c κs. search needs)
+    (λ c κs. search needs)
+    (λ c κs. search needs)
+    (λ c. search needs)
+    (λ c. search needs)
+    returns-2)

@@ -6,11 +6,30 @@ use Rattle.capi.proofs.birlimock_set_p5.Statement.{statement}
 use Rattle.capi.proofs.birlimock_set_p5.Tie as tie
 
 returns : tie.Need-returns
-returns c = owner-refused refl (c .before .before .read-image .ensures) (c .before .own-refusal .ensures) (c .if1 .taken)
+returns c =
+    let at-refusal-of = c .before in
+    owner-refused refl (at-refusal-of .refusal-of .ensures) (c .if1 .taken)
 
 returns-2 : tie.Need-returns-2
 returns-2 c =
-    owner-called refl (c .before .before .before .before .before .before .before .before .read-image .ensures) (c .before .before .before .before .before .before .before .own-refusal .ensures) (c .before .before .before .before .before .before .if1 .left) (λ _. c .before .before .before .before .set-p5 .ensures) (c .before .before .end .ensures)
+    let at-end = c .before .before in
+    let at-set-p5 = at-end .before .before in
+    let at-meter-in = at-set-p5 .before in
+    let at-if1 = at-meter-in .before .before in
+    let at-refusal-of = at-if1 .before in
+    owner-called refl (at-refusal-of .refusal-of .ensures) (at-if1 .if1 .left) (at-meter-in .meter-in .ensures)
+    (λ _. at-set-p5 .set-p5 .ensures)
+    (at-end .end .ensures)
 
 pub birlimock-set-p5-spec : {M : Type 1} → statement M
-birlimock-set-p5-spec = tie.close (tie.spec (λ c κs. search needs) (λ c κs. search needs) (λ c. search needs) returns (λ c κs. search needs) (λ c κs. search needs) (λ c. search needs) returns-2)
+birlimock-set-p5-spec =
+    tie.close
+    (tie.spec
+    (λ c κs. search needs)
+    (λ c. search needs)
+    returns
+    (λ c κs. search needs)
+    (λ c κs. search needs)
+    (λ c κs. search needs)
+    (λ c. search needs)
+    returns-2)

@@ -6,11 +6,33 @@ use Rattle.capi.proofs.birlimock_set_value.Statement.{statement}
 use Rattle.capi.proofs.birlimock_set_value.Tie as tie
 
 returns : tie.Need-returns
-returns c = owner-refused refl (c .before .before .read-image .ensures) (c .before .own-refusal .ensures) (c .if1 .taken)
+returns c =
+    let at-refusal-of = c .before in
+    owner-refused refl (at-refusal-of .refusal-of .ensures) (c .if1 .taken)
 
 returns-2 : tie.Need-returns-2
 returns-2 c =
-    owner-called refl (c .before .before .before .before .before .before .before .before .before .read-image .ensures) (c .before .before .before .before .before .before .before .before .own-refusal .ensures) (c .before .before .before .before .before .before .before .if1 .left) (λ g. rw (named (c .before .before .before .before .before .before .before .before .before .before .before .before .before .args .name .now) (c .before .before .before .before .before .name-of .ensures) g) at (c .before .before .before .before .set-value .ensures)) (c .before .before .end .ensures)
+    let at-end = c .before .before in
+    let at-set-value = at-end .before .before in
+    let at-name-of = at-set-value .before in
+    let at-meter-in = at-name-of .before in
+    let at-if1 = at-meter-in .before .before in
+    let at-refusal-of = at-if1 .before in
+    let s = at-refusal-of .before .before .before .before in
+    owner-called refl (at-refusal-of .refusal-of .ensures) (at-if1 .if1 .left) (at-meter-in .meter-in .ensures)
+    (λ g. rw (named (s .args .name .now) (at-name-of .name-of .ensures) g) at (at-set-value .set-value .ensures))
+    (at-end .end .ensures)
 
 pub birlimock-set-value-spec : {M : Type 1} → statement M
-birlimock-set-value-spec = tie.close (tie.spec (λ c κs. search needs) (λ c κs. search needs) (λ c. search needs) returns (λ c κs. search needs) (λ c κs. search needs) (λ c κs. search needs) (λ c. search needs) returns-2)
+birlimock-set-value-spec =
+    tie.close
+    (tie.spec
+    (λ c κs. search needs)
+    (λ c. search needs)
+    returns
+    (λ c κs. search needs)
+    (λ c κs. search needs)
+    (λ c κs. search needs)
+    (λ c κs. search needs)
+    (λ c. search needs)
+    returns-2)

@@ -6,11 +6,33 @@ use Rattle.capi.proofs.birlimock_tick.Statement.{statement}
 use Rattle.capi.proofs.birlimock_tick.Tie as tie
 
 returns : tie.Need-returns
-returns c = owner-refused refl (c .before .before .read-image .ensures) (c .before .own-refusal .ensures) (c .if1 .taken)
+returns c =
+    let at-refusal-of = c .before in
+    owner-refused refl (at-refusal-of .refusal-of .ensures) (c .if1 .taken)
 
 returns-2 : tie.Need-returns-2
 returns-2 c =
-    owner-called refl (c .before .before .before .before .before .before .before .before .before .read-image .ensures) (c .before .before .before .before .before .before .before .before .own-refusal .ensures) (c .before .before .before .before .before .before .before .if1 .left) (λ g. rw (clocked (c .before .before .before .before .before .before .before .before .before .before .before .before .before .args .clock .now) (c .before .before .before .before .before .clock-of .ensures) g) at (c .before .before .before .before .tick .ensures)) (c .before .before .end .ensures)
+    let at-end = c .before .before in
+    let at-tick = at-end .before .before in
+    let at-clock-of = at-tick .before in
+    let at-meter-in = at-clock-of .before in
+    let at-if1 = at-meter-in .before .before in
+    let at-refusal-of = at-if1 .before in
+    let s = at-refusal-of .before .before .before .before in
+    owner-called refl (at-refusal-of .refusal-of .ensures) (at-if1 .if1 .left) (at-meter-in .meter-in .ensures)
+    (λ g. rw (clocked (s .args .clock .now) (at-clock-of .clock-of .ensures) g) at (at-tick .tick .ensures))
+    (at-end .end .ensures)
 
 pub birlimock-tick-spec : {M : Type 1} → statement M
-birlimock-tick-spec = tie.close (tie.spec (λ c κs. search needs) (λ c κs. search needs) (λ c. search needs) returns (λ c κs. search needs) (λ c κs. search needs) (λ c κs. search needs) (λ c. search needs) returns-2)
+birlimock-tick-spec =
+    tie.close
+    (tie.spec
+    (λ c κs. search needs)
+    (λ c. search needs)
+    returns
+    (λ c κs. search needs)
+    (λ c κs. search needs)
+    (λ c κs. search needs)
+    (λ c κs. search needs)
+    (λ c. search needs)
+    returns-2)

@@ -1,25 +1,45 @@
--- `image::read_image` meets its contract: the tests, in their order.
+-- `image::read_image` meets its contract: by the status.
 use mathlib.Core.Path.{refl, sym, _∙_}
-use native.Mathlib.Omega.{arith}
-use borrow.Author.Tests.{not-true, not-false}
 use Rattle.image.specs.declared.Status.the-variants.{WrongLength, WrongVersion, NoImage}
-use Rattle.image.proofs.ImageLaws.{other-length, other-version, not-taken, all-passed, refused-read, whole-read}
-use Rattle.image.proofs.Sizes.{sizes}
+use Rattle.image.proofs.ImageLaws.{refused-read, whole-read}
 use borrow.Author.Needs.{needs}
 use Rattle.image.proofs.read_image.Statement.{statement}
 use Rattle.image.proofs.read_image.Tie as tie
 
 returns : tie.Need-returns
-returns c = refused-read _ WrongLength (other-length _ (λ e. c .before .if1 .taken (e ∙ sizes .image-size))) refl (c .refused .ensures)
+returns c =
+    let at-told = c .before in
+    whole-read _ (sym (at-told .before .before .status-of .ensures) ∙ at-told .enum-told .given .1) (c .meter-in .ensures)
 
 returns-2 : tie.Need-returns-2
-returns-2 c = refused-read _ WrongVersion (other-version _ (c .before .before .before .if1 .left ∙ sym (sizes .image-size)) (c .before .if2 .taken)) refl (c .refused2 .ensures)
+returns-2 c =
+    let at-told = c .before in
+    refused-read _ WrongLength (sym (at-told .before .before .status-of .ensures) ∙ at-told .enum-told2 .given .1) refl (c .refused .ensures)
 
 returns-3 : tie.Need-returns-3
-returns-3 c = refused-read _ NoImage (not-taken _ (c .before .before .before .before .before .if1 .left ∙ sym (sizes .image-size)) (c .before .before .before .if2 .left) (sym (c .before .before .meter-taken .ensures) ∙ not-true _ (c .before .if3 .taken))) refl (c .refused3 .ensures)
+returns-3 c =
+    let at-told = c .before in
+    refused-read _ WrongVersion (sym (at-told .before .before .status-of .ensures) ∙ at-told .enum-told3 .given .1) refl (c .refused2 .ensures)
 
 returns-4 : tie.Need-returns-4
-returns-4 c = whole-read _ (all-passed _ (c .before .before .before .before .before .if1 .left ∙ sym (sizes .image-size)) (c .before .before .before .if2 .left) (sym (c .before .before .meter-taken .ensures) ∙ not-false _ (c .before .if3 .left))) (c .meter-at .ensures)
+returns-4 c =
+    let at-told = c .before in
+    refused-read _ NoImage (sym (at-told .before .before .status-of .ensures) ∙ at-told .enum-told4 .given .1) refl (c .refused3 .ensures)
 
 pub read-image-spec : {M : Type 1} → statement M
-read-image-spec = tie.close (tie.spec (λ c κs. search needs) returns (λ c. search needs) (λ c κs. search needs) returns-2 (λ c κs. let z = sizes in omega arith) (λ c κs. search needs) returns-3 (λ c κs. let z = sizes in omega arith) returns-4)
+read-image-spec =
+    tie.close
+    (tie.spec
+    (λ c κs. search needs)
+    (λ c. search needs)
+    (λ c κs. search needs)
+    (λ c. search needs)
+    (λ c κs. search needs)
+    (λ c. search needs)
+    (λ c κs. search needs)
+    (λ c. search needs)
+    (λ c κs. search needs)
+    returns
+    returns-2
+    returns-3
+    returns-4)

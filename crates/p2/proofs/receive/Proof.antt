@@ -1,5 +1,5 @@
 -- `p2::receive` meets its contract: refusals 1, 2 and 3, then the protocol.
-use mathlib.Core.Path.{refl, sym, ap, _∙_}
+use mathlib.Core.Path.{refl, sym, _∙_}
 use native.Mathlib.Omega.{arith}
 use lib.ListN.{replicate}
 use borrow.Author.Tests.{not-true, not-false}
@@ -13,23 +13,23 @@ use Rattle.p2.proofs.receive.Tie as tie
 
 returns : tie.Need-returns
 returns c =
-    rw (c .kept .ensures) (lent-refused _ _ (room-short _ _ _ _ _ (c .before .if1 .taken)) refl)
+    rw (c .refused .ensures) (lent-refused _ _ (room-short _ _ _ _ _ (c .before .if1 .taken)) refl)
 
 returns-2 : tie.Need-returns-2
 returns-2 c =
-    rw (c .kept2 .ensures) (lent-refused _ _ (guk-wrong _ _ _ _ _ (c .before .before .if1 .left) (c .before .if2 .taken)) refl)
+    rw (c .refused2 .ensures) (lent-refused _ _ (guk-wrong _ _ _ _ _ (c .before .before .if1 .left) (c .before .if2 .taken)) refl)
 
 returns-3 : tie.Need-returns-3
 returns-3 c =
-    rw (c .kept3 .ensures) (lent-refused _ _ (ak-wrong _ _ _ _ _ (c .before .before .before .if1 .left) (c .before .before .if2 .left) (c .before .if3 .taken)) refl)
+    rw (c .refused3 .ensures) (lent-refused _ _ (ak-wrong _ _ _ _ _ (c .before .before .before .if1 .left) (c .before .before .if2 .left) (c .before .if3 .taken)) refl)
 
 returns-4 : tie.Need-returns-4
 returns-4 c =
-    rw (c .kept4 .ensures) (lent-refused _ _ (challenge-wrong _ _ _ _ _ (c .before .before .before .before .if1 .left) (c .before .before .before .if2 .left) (c .before .before .if3 .left) (c .before .if4 .taken)) refl)
+    rw (c .refused4 .ensures) (lent-refused _ _ (challenge-wrong _ _ _ _ _ (c .before .before .before .before .if1 .left) (c .before .before .before .if2 .left) (c .before .before .if3 .left) (c .before .if4 .taken)) refl)
 
 returns-5 : tie.Need-returns-5
 returns-5 c =
-    rw (c .kept5 .ensures) (unsound-refused _ _ (lent-right _ _ _ _ _ (c .before .before .before .before .before .before .if1 .left) (c .before .before .before .before .before .if2 .left) (c .before .before .before .before .if3 .left) (c .before .before .before .if4 .left)) (sym (c .before .before .is-sound .ensures) ∙ not-true _ (c .before .if5 .taken)))
+    rw (c .refused5 .ensures) (unsound-refused _ _ (lent-right _ _ _ _ _ (c .before .before .before .before .before .before .if1 .left) (c .before .before .before .before .before .if2 .left) (c .before .before .before .before .if3 .left) (c .before .before .before .if4 .left)) (sym (c .before .before .is-sound .ensures) ∙ not-true _ (c .before .if5 .taken)))
 
 hear-requires : tie.Need-hear-requires
 hear-requires c κs =

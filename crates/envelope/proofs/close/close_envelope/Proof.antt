@@ -2,6 +2,7 @@
 use mathlib.Core.Path.{refl}
 use native.Mathlib.Omega.{arith}
 use borrow.Author.Needs.{needs}
+use Rattle.envelope.specs.Layout.{keysOf}
 use Rattle.envelope.proofs.CloseLaws.{envelope-size, length-head, tag-room, closes}
 use Rattle.envelope.proofs.close.close_envelope.Statement.{statement}
 use Rattle.envelope.proofs.close.close_envelope.Tie as tie
@@ -22,7 +23,7 @@ put-12-requires c κs =
     let s = c .before .before .before .before in
     let h = s .before .before .before .before .before .before .before .before in
     let a = h .before .before .before .args in
-    tag-room (a .keys) (a .title) (a .tag) (a .counter) (a .n) (a .at) (a .out .now) (h .before .before .before .pre .1) (h .put-head .ensures) refl (s .seal .ensures)
+    tag-room (keysOf (a .keys)) (a .title) (a .tag) (a .counter) (a .n) (a .at) (a .out .now) (h .before .before .before .pre .1) (h .put-head .ensures) refl (s .seal .ensures)
 
 returns : tie.Need-returns
 returns c =
@@ -30,8 +31,8 @@ returns c =
     let d = s .before .before .before in
     let h = d .before .before .before .before .before in
     let a = h .before .before .before .args in
-    closes (a .keys) (a .title) (a .tag) (a .counter) (a .n) (a .at) (a .out .now) (h .before .before .before .pre .1) (h .put-head .ensures) refl (s .seal .ensures)
-    (d .before .before .key-for .ensures) (d .before .nonce .ensures) (d .associated-data .ensures) (c .before .before .put-12 .ensures .wrote)
+    closes (keysOf (a .keys)) (a .title) (a .tag) (a .counter) (a .n) (a .at) (a .out .now) (h .before .before .before .pre .1) (h .put-head .ensures) refl (s .seal .ensures)
+    (d .before .nonce .ensures) (d .associated-data .ensures) (c .before .before .put-12 .ensures .wrote)
 
 pub close-envelope-spec : {M : Type 1} → statement M
 close-envelope-spec =
@@ -39,7 +40,6 @@ close-envelope-spec =
     (tie.spec
     put-head-requires
     (λ c. search needs)
-    (λ c κs. search needs)
     (λ c κs. search needs)
     (λ c κs. search needs)
     (λ c. search needs)

@@ -5,6 +5,7 @@ use mathlib.Core.Bool.{true, false}
 use lib.ListN.{length}
 use native.Mathlib.Omega.{arith}
 use borrow.Author.Needs.{needs}
+use Rattle.envelope.specs.Layout.{keysOf}
 use Rattle.envelope.specs.Opening.{longestApdu}
 use Rattle.envelope.proofs.ShapeLaws.{longest-apdu, places-of}
 use Rattle.envelope.proofs.OpenLaws.{no-shape, handed, right-tag, wrong-tag}
@@ -15,7 +16,7 @@ returns : tie.Need-returns
 returns c =
     let s = c .before .before in
     let a = s .before .before .args in
-    no-shape (a .keys) (a .title) (a .tag) (a .apdu .now) (a .out .now) (sym (s .read-shape .ensures) ∙ c .enum-told .given .1)
+    no-shape (keysOf (a .keys)) (a .title) (a .tag) (a .apdu .now) (a .out .now) (sym (s .read-shape .ensures) ∙ c .enum-told .given .1)
 
 sub-open-into : tie.Need-sub-open-into
 sub-open-into c =
@@ -60,8 +61,8 @@ returns-2 c =
     let l = a .out .now in
     let m = o .open-into .last .1 .1 .1 .1 .1 .0 in
     let h : longestApdu ≤ length l = omega (arith, longest-apdu) in
-    right-tag (a .keys) (a .title) (a .tag) (a .apdu .now) q l m h
-    (handed (a .keys) (a .title) (a .tag) (a .apdu .now) q l m h true (d .before .before .key-for .ensures) (d .before .nonce .ensures) (d .associated-data .ensures) (o .open-into .ensures) (c .if1 .taken))
+    right-tag (keysOf (a .keys)) (a .title) (a .tag) (a .apdu .now) q l m h
+    (handed (keysOf (a .keys)) (a .title) (a .tag) (a .apdu .now) q l m h true (d .before .nonce .ensures) (d .associated-data .ensures) (o .open-into .ensures) (c .if1 .taken))
 
 returns-3 : tie.Need-returns-3
 returns-3 c =
@@ -73,8 +74,8 @@ returns-3 c =
     let l = a .out .now in
     let m = o .open-into .last .1 .1 .1 .1 .1 .0 in
     let h : longestApdu ≤ length l = omega (arith, longest-apdu) in
-    wrong-tag (a .keys) (a .title) (a .tag) (a .apdu .now) q l m h
-    (handed (a .keys) (a .title) (a .tag) (a .apdu .now) q l m h false (d .before .before .key-for .ensures) (d .before .nonce .ensures) (d .associated-data .ensures) (o .open-into .ensures) (c .if1 .left))
+    wrong-tag (keysOf (a .keys)) (a .title) (a .tag) (a .apdu .now) q l m h
+    (handed (keysOf (a .keys)) (a .title) (a .tag) (a .apdu .now) q l m h false (d .before .nonce .ensures) (d .associated-data .ensures) (o .open-into .ensures) (c .if1 .left))
 
 pub open-envelope-spec : {M : Type 1} → statement M
 open-envelope-spec =
@@ -84,7 +85,6 @@ open-envelope-spec =
     (λ c. search needs)
     (λ c. search needs)
     returns
-    (λ c κs. search needs)
     (λ c κs. search needs)
     (λ c κs. search needs)
     (λ c. search needs)

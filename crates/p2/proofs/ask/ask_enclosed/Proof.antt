@@ -10,22 +10,70 @@ use Rattle.p2.proofs.ask.ask_enclosed.Tie as tie
 
 part-ask-inside-end : tie.Need-part-ask-inside-end
 part-ask-inside-end c =
-    admitted-size (c .before .before .before .before .admit-envelope .ensures) (c .before .before .admission .given .1)
+    let at-admission = c .before .before in
+    let at-admit-envelope = at-admission .before .before in
+    admitted-size (at-admit-envelope .admit-envelope .ensures) (at-admission .admission .given .1)
 
 returns : tie.Need-returns
 unfolding requestEnclosed
 returns c =
-    rw (c .kept .ensures) (follows (admits-unopened (c .before .before .before .before .before .before .before .before .before .before .before .before .args .tag) (c .before .before .before .before .before .before .before .before .before .before .before .before .args .apdu .now) (c .before .before .before .before .before .before .dedicated-keys .ensures) (c .before .before .before .before .before .title-of .ensures) (c .before .before .before .before .before .before .before .before .before .before .before .before .args .meter .line) _ (c .before .before .before .admit-envelope .ensures) (c .before .enum-told .given .1)) (says-kept envelopeUnopened nothing (c .before .before .before .before .before .before .before .before .before .before .before .before .args .meter) refl (nothing-sent _)))
+    let at-kept = c .before in
+    let at-enum-told = at-kept .before in
+    let at-admit-envelope = at-enum-told .before .before in
+    let at-title-of = at-admit-envelope .before .before in
+    let at-dedicated-keys = at-title-of .before in
+    let s = at-dedicated-keys .before .before .before .before .before .before in
+    rw (c .joined .ensures, at-kept .kept .ensures)
+    (follows
+    (admits-unopened (s .args .tag) (s .args .apdu .now) (at-dedicated-keys .dedicated-keys .ensures) (at-title-of .title-of .ensures) (s .args .meter .line) _ (at-admit-envelope .admit-envelope .ensures) (at-enum-told .enum-told .given .1))
+    (says-kept envelopeUnopened nothing (s .args .meter) refl (nothing-sent _)))
 
 returns-2 : tie.Need-returns-2
 unfolding requestEnclosed
 returns-2 c =
-    follows (admits-outside (c .before .before .before .before .before .before .before .before .before .before .before .before .args .tag) (c .before .before .before .before .before .before .before .before .before .before .before .before .args .apdu .now) (c .before .before .before .before .before .before .dedicated-keys .ensures) (c .before .before .before .before .before .title-of .ensures) (c .before .before .before .before .before .before .before .before .before .before .before .before .args .meter .line) _ (c .before .before .before .admit-envelope .ensures) (c .before .enum-told2 .given .1)) (c .drop-association .ensures _)
+    let at-drop-association = c .before in
+    let at-enum-told2 = at-drop-association .before in
+    let at-admit-envelope = at-enum-told2 .before .before in
+    let at-title-of = at-admit-envelope .before .before in
+    let at-dedicated-keys = at-title-of .before in
+    let s = at-dedicated-keys .before .before .before .before .before .before in
+    rw (c .joined2 .ensures)
+    (follows
+    (admits-outside (s .args .tag) (s .args .apdu .now) (at-dedicated-keys .dedicated-keys .ensures) (at-title-of .title-of .ensures) (s .args .meter .line) _ (at-admit-envelope .admit-envelope .ensures) (at-enum-told2 .enum-told2 .given .1))
+    (at-drop-association .drop-association .ensures _ (s .args .meter .body)))
 
 returns-3 : tie.Need-returns-3
 unfolding requestEnclosed
 returns-3 c =
-    follows (admits-inside (c .before .before .before .before .before .before .before .before .before .before .before .before .before .before .before .before .before .before .args .tag) (c .before .before .before .before .before .before .before .before .before .before .before .before .before .before .before .before .before .before .args .apdu .now) (c .before .before .before .before .before .before .before .before .before .before .before .before .dedicated-keys .ensures) (c .before .before .before .before .before .before .before .before .before .before .before .title-of .ensures) (c .before .before .before .before .before .before .before .before .before .before .before .before .before .before .before .before .before .before .args .meter .line) _ (c .before .before .before .before .before .before .before .before .before .admit-envelope .ensures) (c .before .before .before .before .before .before .before .admission .given .1)) (c .before .before .ask-inside .ensures)
+    let at-ask-inside = c .before .before in
+    let at-admission = at-ask-inside .before .before .before .before .before in
+    let at-admit-envelope = at-admission .before .before in
+    let at-title-of = at-admit-envelope .before .before in
+    let at-dedicated-keys = at-title-of .before in
+    let s = at-dedicated-keys .before .before .before .before .before .before in
+    follows
+    (admits-inside (s .args .tag) (s .args .apdu .now) (at-dedicated-keys .dedicated-keys .ensures) (at-title-of .title-of .ensures) (s .args .meter .line) _ (at-admit-envelope .admit-envelope .ensures) (at-admission .admission .given .1))
+    (at-ask-inside .ask-inside .ensures (s .args .secrets) (at-dedicated-keys .dedicated-keys .ensures))
 
 pub ask-enclosed-spec : {M : Type 1} → statement M
-ask-enclosed-spec = tie.close (tie.spec (λ c κs. search needs) (λ c κs. search needs) (λ c κs. search needs) (λ c. search needs) (λ c κs. search needs) (λ c. search needs) (λ c κs. search needs) (λ c. search needs) (λ c. search needs) (λ c. search needs) part-ask-inside-end (λ c κs. search needs) returns returns-2 (λ c. search needs) returns-3)
+ask-enclosed-spec =
+    tie.close
+    (tie.spec
+    (λ c κs. search needs)
+    (λ c κs. search needs)
+    (λ c κs. search needs)
+    (λ c. search needs)
+    (λ c κs. search needs)
+    (λ c κs. search needs)
+    (λ c. search needs)
+    (λ c κs. search needs)
+    (λ c κs. search needs)
+    (λ c. search needs)
+    (λ c. search needs)
+    (λ c. search needs)
+    part-ask-inside-end
+    (λ c κs. search needs)
+    returns
+    returns-2
+    (λ c. search needs)
+    returns-3)

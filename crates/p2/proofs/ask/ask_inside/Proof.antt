@@ -7,12 +7,35 @@ use Rattle.p2.proofs.ask.ask_inside.Statement.{statement}
 use Rattle.p2.proofs.ask.ask_inside.Tie as tie
 
 returns : tie.Need-returns
-returns c =
-    rw (sym (c .before .before .before .before .before .before .before .before .read-inside .ensures) ∙ c .before .before .before .before .before .reading .given .1) (c .before .before .answer-enclosed .ensures)
+returns c a e =
+    let at-answer-enclosed = c .before .before in
+    let at-reading = at-answer-enclosed .before .before .before in
+    let at-read-inside = at-reading .before .before in
+    rw (sym (at-read-inside .read-inside .ensures) ∙ at-reading .reading .given .1) (at-answer-enclosed .answer-enclosed .ensures a e)
 
 returns-2 : tie.Need-returns-2
-returns-2 c =
-    rw (sym (c .before .before .before .before .before .before .before .before .read-inside .ensures) ∙ c .before .before .before .before .before .enum-told .given .1, sym (c .before .before .before .before .accept-counter .ensures)) (c .before .before .except .ensures malformedApdu refl (λ d. accepted-same _ _ (c .before .before .before .before .accept-counter .ensures) d))
+returns-2 c a e =
+    let at-except = c .before .before .before in
+    let at-accept-counter = at-except .before .before in
+    let at-enum-told = at-accept-counter .before in
+    let at-read-inside = at-enum-told .before .before in
+    let s = at-read-inside .before .before .before in
+    let next = at-accept-counter .accept-counter .ensures in
+    rw (c .joined .ensures, sym (at-read-inside .read-inside .ensures) ∙ at-enum-told .enum-told .given .1, sym next)
+    (at-except .except .ensures (s .args .meter .line) malformedApdu refl (λ d. accepted-same _ _ next d) (s .args .meter .body))
 
 pub ask-inside-spec : {M : Type 1} → statement M
-ask-inside-spec = tie.close (tie.spec (λ c κs. search needs) (λ c. search needs) (λ c κs. search needs) (λ c. search needs) (λ c κs. search needs) (λ c κs. search needs) (λ c. search needs) returns (λ c. search needs) returns-2)
+ask-inside-spec =
+    tie.close
+    (tie.spec
+    (λ c κs. search needs)
+    (λ c. search needs)
+    (λ c κs. search needs)
+    (λ c. search needs)
+    (λ c κs. search needs)
+    (λ c κs. search needs)
+    (λ c κs. search needs)
+    (λ c. search needs)
+    returns
+    (λ c. search needs)
+    returns-2)

@@ -6,12 +6,32 @@ use Rattle.p2.proofs.ask.ask_plain.Statement.{statement}
 use Rattle.p2.proofs.ask.ask_plain.Tie as tie
 
 returns : tie.Need-returns
-returns c =
-    rw (sym (c .before .before .before .before .before .before .before .read-get .ensures) ∙ c .before .before .before .before .before .reading .given .1) (c .before .before .answer-plain .ensures (c .before .before .before .before .before .before .before .before .before .before .before .args .secrets .ak))
+returns c a =
+    let at-answer-plain = c .before .before in
+    let at-reading = at-answer-plain .before .before .before in
+    let at-read-get = at-reading .before .before in
+    rw (sym (at-read-get .read-get .ensures) ∙ at-reading .reading .given .1) (at-answer-plain .answer-plain .ensures (a .ak))
 
 returns-2 : tie.Need-returns-2
-returns-2 c =
-    rw (sym (c .before .before .before .before .before .before .read-get .ensures) ∙ c .before .before .before .before .enum-told .given .1) (c .before .before .except .ensures malformedApdu refl (λ d. refl))
+returns-2 c a =
+    let at-except = c .before .before .before in
+    let at-enum-told = at-except .before .before in
+    let at-read-get = at-enum-told .before .before in
+    let s = at-read-get .before .before .before .before in
+    rw (c .joined .ensures, sym (at-read-get .read-get .ensures) ∙ at-enum-told .enum-told .given .1)
+    (at-except .except .ensures (s .args .meter .line) malformedApdu refl (λ d. refl) (s .args .meter .body))
 
 pub ask-plain-spec : {M : Type 1} → statement M
-ask-plain-spec = tie.close (tie.spec (λ c κs. search needs) (λ c. search needs) (λ c κs. search needs) (λ c. search needs) (λ c κs. search needs) (λ c. search needs) returns (λ c. search needs) returns-2)
+ask-plain-spec =
+    tie.close
+    (tie.spec
+    (λ c κs. search needs)
+    (λ c. search needs)
+    (λ c κs. search needs)
+    (λ c. search needs)
+    (λ c κs. search needs)
+    (λ c κs. search needs)
+    (λ c. search needs)
+    returns
+    (λ c. search needs)
+    returns-2)

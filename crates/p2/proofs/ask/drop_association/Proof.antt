@@ -7,12 +7,20 @@ use Rattle.protocol.specs.Clients.{withAssociation, peer}
 use Rattle.model.specs.declared.Client.the-variants.{Han}
 use Rattle.model.specs.State.{none as noAssociation}
 use borrow.Author.Needs.{needs}
+use Rattle.p2.specs.Promise.{meterWith}
 use Rattle.p2.proofs.ask.drop_association.Statement.{statement}
 use Rattle.p2.proofs.ask.drop_association.Tie as tie
 
 returns : tie.Need-returns
-returns c =
-    λ l. rw (c .answered .ensures) (says-line outsideWindow nothing (c .before .before .before .args .meter) refl (nothing-sent l) _ (c .before .ended .ensures .view) refl (ends-one (c .before .ended .result) Han (withAssociation noAssociation (peer Han (lineOf (c .before .before .before .args .meter .line)))) (lineOf (c .before .before .before .args .meter .line)) (c .before .ended .ensures .wiped)))
+returns c l b =
+    let s = c .before in
+    let before = lineOf (s .args .line) in
+    says-line outsideWindow nothing (meterWith (s .args .line) b) refl (nothing-sent l) _ (c .ended .ensures .view) refl
+    (ends-one (c .ended .result) Han (withAssociation noAssociation (peer Han before)) before (c .ended .ensures .wiped))
 
 pub drop-association-spec : {M : Type 1} → statement M
-drop-association-spec = tie.close (tie.spec (λ c κs. search needs) (λ c κs. search needs) returns)
+drop-association-spec =
+    tie.close
+    (tie.spec
+    (λ c κs. search needs)
+    returns)

@@ -8,13 +8,34 @@ use Rattle.protocol.specs.Clients.{associates}
 use Rattle.model.specs.State.{pending}
 use Rattle.model.specs.declared.Client.the-variants.{Han}
 use borrow.Author.Needs.{needs}
+use Rattle.p2.specs.Promise.{meterWith}
 use Rattle.p2.proofs.associate.accept_ciphered.Statement.{statement}
 use Rattle.p2.proofs.associate.accept_ciphered.Tie as tie
 
 returns : tie.Need-returns
 unfolding acceptedCiphered lineOf
-returns c =
-    rw (c .answered .ensures, sym (c .before .before .before .before .before .before .before .before .agreed .ensures), sym (c .before .before .before .before .before .before .before .lent-keys .ensures), sym (c .before .before .before .before .before .before .before .before .before .before .accept .ensures), sym (c .before .before .before .before .before .before .before .before .before .take .ensures)) (says-line none _ (c .before .before .before .before .before .before .before .before .before .before .before .before .before .before .before .args .meter) refl (c .before .before .before .send-accepted-ciphered .ensures) _ (c .before .before .before .before .before .pending .ensures) refl (counted (c .before .before .before .before .before .pending .result) (c .before .before .before .before .before .before .before .before .before .take .result .counters) (associates Han (pending (c .before .before .before .before .before .before .before .before .agreed .result) (c .before .before .before .before .before .before .before .before .before .before .before .before .before .before .before .args .key) (c .before .before .before .before .before .before .before .before .before .before .before .before .before .before .before .args .challenge) (c .before .before .before .before .before .before .before .before .before .before .before .before .before .before .before .args .secrets .challenge)) (lineOf (c .before .before .before .before .before .before .before .before .before .before .before .before .before .before .before .args .meter .line))) (stands-one (c .before .before .before .before .before .pending .result) Han (pending (c .before .before .before .before .before .before .before .before .agreed .result) (c .before .before .before .before .before .before .before .before .before .before .before .before .before .before .before .args .key) (c .before .before .before .before .before .before .before .before .before .before .before .before .before .before .before .args .challenge) (c .before .before .before .before .before .before .before .before .before .before .before .before .before .before .before .args .secrets .challenge)) (lineOf (c .before .before .before .before .before .before .before .before .before .before .before .before .before .before .before .args .meter .line)) refl)))
+returns c e b =
+    let at-send-accepted-ciphered = c .before .before in
+    let at-pending = at-send-accepted-ciphered .before .before in
+    let at-agreed = at-pending .before .before in
+    let at-take = at-agreed .before in
+    let at-accept = at-take .before in
+    let s = at-accept .before .before .before .before in
+    let l = lineOf (s .args .line) in
+    let after = pending (at-agreed .agreed .result) (s .args .key) (s .args .challenge) (s .args .secrets .challenge) in
+    rw (sym (at-agreed .agreed .ensures), sym e, sym (at-accept .accept .ensures), sym (at-take .take .ensures))
+    (says-line none _ (meterWith (s .args .line) b) refl (at-send-accepted-ciphered .send-accepted-ciphered .ensures) _ (at-pending .pending .ensures) refl
+    (counted (at-pending .pending .result) (at-take .take .result .counters) (associates Han after l)
+    (stands-one (at-pending .pending .result) Han after l refl)))
 
 pub accept-ciphered-spec : {M : Type 1} → statement M
-accept-ciphered-spec = tie.close (tie.spec (λ c κs. search needs) (λ c κs. search needs) (λ c κs. search needs) (λ c κs. search needs) (λ c κs. search needs) (λ c κs. search needs) (λ c κs. search needs) (λ c. search needs) returns)
+accept-ciphered-spec =
+    tie.close
+    (tie.spec
+    (λ c κs. search needs)
+    (λ c κs. search needs)
+    (λ c κs. search needs)
+    (λ c κs. search needs)
+    (λ c κs. search needs)
+    (λ c. search needs)
+    returns)

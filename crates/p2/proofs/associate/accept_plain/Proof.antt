@@ -8,13 +8,28 @@ use Rattle.model.specs.State.{associated}
 use Rattle.model.specs.declared.Client.the-variants.{Verification}
 use mathlib.Core.List.{[]}
 use borrow.Author.Needs.{needs}
+use Rattle.p2.specs.Promise.{meterWith}
 use Rattle.p2.proofs.associate.accept_plain.Statement.{statement}
 use Rattle.p2.proofs.associate.accept_plain.Tie as tie
 
 returns : tie.Need-returns
 unfolding acceptedPlain lineOf
-returns c =
-    rw (c .answered .ensures, sym (c .before .before .before .before .before .before .agreed .ensures)) (says-line none _ (c .before .before .before .before .before .before .before .before .before .before .args .meter) refl (c .before .before .before .send-accepted-plain .ensures) _ (c .before .before .before .before .before .associated-plain .ensures) refl (stands-one (c .before .before .before .before .before .associated-plain .result) Verification (associated (c .before .before .before .before .before .before .agreed .result) []) (lineOf (c .before .before .before .before .before .before .before .before .before .before .args .meter .line)) refl))
+returns c b =
+    let at-send-accepted-plain = c .before .before in
+    let at-associated-plain = at-send-accepted-plain .before .before in
+    let at-agreed = at-associated-plain .before in
+    let s = at-agreed .before .before .before in
+    let l = lineOf (s .args .line) in
+    rw (sym (at-agreed .agreed .ensures))
+    (says-line none _ (meterWith (s .args .line) b) refl (at-send-accepted-plain .send-accepted-plain .ensures) _ (at-associated-plain .associated-plain .ensures) refl
+    (stands-one (at-associated-plain .associated-plain .result) Verification (associated (at-agreed .agreed .result) []) l refl))
 
 pub accept-plain-spec : {M : Type 1} → statement M
-accept-plain-spec = tie.close (tie.spec (λ c κs. search needs) (λ c κs. search needs) (λ c κs. search needs) (λ c κs. search needs) (λ c. search needs) returns)
+accept-plain-spec =
+    tie.close
+    (tie.spec
+    (λ c κs. search needs)
+    (λ c κs. search needs)
+    (λ c κs. search needs)
+    (λ c. search needs)
+    returns)

@@ -12,33 +12,82 @@ use Rattle.p2.proofs.associate.associate.Tie as tie
 
 sub-open-request : tie.Need-sub-open-request
 sub-open-request c =
-    let s = c .before .before .before .before .before .before .before .before .before .before .args .apdu .now in
-    let k = ciphered-told s _ _ (ap length (c .before .before .before .before .before .before .title-of .ensures) ∙ title-long (c .before .before .before .before .before .before .before .before .before .before .args .meter) _ (c .before .before .before .before .before .before .before .before .before .before .good .0) (c .before .before .before .before .before .before .before .before .before .before .args .client)) (sym (c .before .before .before .before .read-aarq .ensures) ∙ c .before .before .aarq2 .given .1) in
+    let at-aarq2 = c .before .before in
+    let at-read-aarq = at-aarq2 .before .before in
+    let at-title-of = at-read-aarq .before .before in
+    let s = at-title-of .before .before .before in
+    let apdu = s .args .apdu .now in
+    let q = sym (at-read-aarq .read-aarq .ensures) ∙ at-aarq2 .aarq2 .given .1 in
+    let k = ciphered-told apdu _ _ (ap length (at-title-of .title-of .ensures) ∙ title-long (s .args .line) _ (s .good .0) (s .args .client)) q in
     omega (arith, k .envelopePlace, k .long)
 
 part-open-request-start : tie.Need-part-open-request-start
 part-open-request-start c =
-    let s = c .before .before .before .before .before .before .before .before .before .before .args .apdu .now in
-    let k = ciphered-told s _ _ (ap length (c .before .before .before .before .before .before .title-of .ensures) ∙ title-long (c .before .before .before .before .before .before .before .before .before .before .args .meter) _ (c .before .before .before .before .before .before .before .before .before .before .good .0) (c .before .before .before .before .before .before .before .before .before .before .args .client)) (sym (c .before .before .before .before .read-aarq .ensures) ∙ c .before .before .aarq2 .given .1) in
+    let at-aarq2 = c .before .before in
+    let at-read-aarq = at-aarq2 .before .before in
+    let at-title-of = at-read-aarq .before .before in
+    let s = at-title-of .before .before .before in
+    let apdu = s .args .apdu .now in
+    let q = sym (at-read-aarq .read-aarq .ensures) ∙ at-aarq2 .aarq2 .given .1 in
+    let k = ciphered-told apdu _ _ (ap length (at-title-of .title-of .ensures) ∙ title-long (s .args .line) _ (s .good .0) (s .args .client)) q in
     omega (arith, k .envelopePlace, k .long)
 
 returns : tie.Need-returns
-returns c =
-    let s = c .before .before .before .before .before .before .before .before .before .before .before .before .before .before .args .apdu .now in
-    let q = sym (c .before .before .before .before .before .before .before .before .read-aarq .ensures) ∙ c .before .before .before .before .before .before .aarq .given .1 in
-    let k = plain-told s _ _ (ap length (c .before .before .before .before .before .before .before .before .before .before .title-of .ensures) ∙ title-long (c .before .before .before .before .before .before .before .before .before .before .before .before .before .before .args .meter) _ (c .before .before .before .before .before .before .before .before .before .before .before .before .before .before .good .0) (c .before .before .before .before .before .before .before .before .before .before .before .before .before .before .args .client)) q in
-    rw (sym (c .before .before .before .before .before .before .before .before .before .before .title-of .ensures), q, sym (c .before .before .before .before .three-at .ensures ∙ fill-here s _ (replicate 3 0) (omega (arith, k .place, k .long)))) (c .before .before .accept-plain .ensures)
+returns c b =
+    let at-accept-plain = c .before .before in
+    let at-three-at = at-accept-plain .before .before in
+    let at-aarq = at-three-at .before .before in
+    let at-read-aarq = at-aarq .before .before in
+    let at-title-of = at-read-aarq .before .before in
+    let s = at-title-of .before .before .before in
+    let apdu = s .args .apdu .now in
+    let q = sym (at-read-aarq .read-aarq .ensures) ∙ at-aarq .aarq .given .1 in
+    let k = plain-told apdu _ _ (ap length (at-title-of .title-of .ensures) ∙ title-long (s .args .line) _ (s .good .0) (s .args .client)) q in
+    rw (sym (at-title-of .title-of .ensures), q, sym (at-three-at .three-at .ensures ∙ fill-here apdu _ (replicate 3 0) (omega (arith, k .place, k .long))))
+    (at-accept-plain .accept-plain .ensures b)
 
 returns-2 : tie.Need-returns-2
-returns-2 c =
-    let s = c .before .before .before .before .before .before .before .before .before .before .before .before .before .before .before .args .apdu .now in
-    let q = sym (c .before .before .before .before .before .before .before .before .before .read-aarq .ensures) ∙ c .before .before .before .before .before .before .before .aarq2 .given .1 in
-    let k = ciphered-told s _ _ (ap length (c .before .before .before .before .before .before .before .before .before .before .before .title-of .ensures) ∙ title-long (c .before .before .before .before .before .before .before .before .before .before .before .before .before .before .before .args .meter) _ (c .before .before .before .before .before .before .before .before .before .before .before .before .before .before .before .good .0) (c .before .before .before .before .before .before .before .before .before .before .before .before .before .before .before .args .client)) q in
-    rw (sym (c .before .before .before .before .before .before .before .before .before .before .before .title-of .ensures), q, sym (c .before .before .before .before .before .eight-at .ensures ∙ fill-here s _ (replicate 8 0) (omega (arith, k .challengePlace, k .long)))) (rw (to-end s _) at (c .before .before .open-request .ensures))
+returns-2 c b =
+    let at-open-request = c .before .before in
+    let at-eight-at = at-open-request .before .before .before in
+    let at-aarq2 = at-eight-at .before .before in
+    let at-read-aarq = at-aarq2 .before .before in
+    let at-title-of = at-read-aarq .before .before in
+    let s = at-title-of .before .before .before in
+    let apdu = s .args .apdu .now in
+    let q = sym (at-read-aarq .read-aarq .ensures) ∙ at-aarq2 .aarq2 .given .1 in
+    let k = ciphered-told apdu _ _ (ap length (at-title-of .title-of .ensures) ∙ title-long (s .args .line) _ (s .good .0) (s .args .client)) q in
+    rw (sym (at-title-of .title-of .ensures), q, sym (at-eight-at .eight-at .ensures ∙ fill-here apdu _ (replicate 8 0) (omega (arith, k .challengePlace, k .long))))
+    (rw (to-end apdu _) at (at-open-request .open-request .ensures b))
 
 returns-3 : tie.Need-returns-3
-returns-3 c =
-    rw (sym (c .before .before .before .before .before .before .before .before .title-of .ensures), sym (c .before .before .before .before .before .before .read-aarq .ensures) ∙ c .before .before .before .before .enum-told .given .1) (c .before .before .reject-aarq .ensures)
+returns-3 c b =
+    let at-reject-aarq = c .before .before in
+    let at-enum-told = at-reject-aarq .before .before in
+    let at-read-aarq = at-enum-told .before .before in
+    let at-title-of = at-read-aarq .before .before in
+    rw (sym (at-title-of .title-of .ensures), sym (at-read-aarq .read-aarq .ensures) ∙ at-enum-told .enum-told .given .1) (at-reject-aarq .reject-aarq .ensures b)
 
 pub associate-spec : {M : Type 1} → statement M
-associate-spec = tie.close (tie.spec (λ c κs. search needs) (λ c κs. search needs) (λ c. search needs) (λ c κs. search needs) (λ c κs. search needs) (λ c. search needs) (λ c κs. search needs) sub-open-request part-open-request-start (λ c. search needs) (λ c κs. search needs) (λ c. search needs) (λ c κs. search needs) (λ c. search needs) returns (λ c. search needs) returns-2 (λ c. search needs) returns-3)
+associate-spec =
+    tie.close
+    (tie.spec
+    (λ c κs. search needs)
+    (λ c κs. search needs)
+    (λ c. search needs)
+    (λ c κs. search needs)
+    (λ c κs. search needs)
+    (λ c. search needs)
+    (λ c κs. search needs)
+    sub-open-request
+    part-open-request-start
+    (λ c. search needs)
+    (λ c κs. search needs)
+    (λ c. search needs)
+    (λ c κs. search needs)
+    (λ c. search needs)
+    returns
+    (λ c. search needs)
+    returns-2
+    (λ c. search needs)
+    returns-3)

@@ -9,14 +9,38 @@ use Rattle.p2.proofs.associate.initiate.Statement.{statement}
 use Rattle.p2.proofs.associate.initiate.Tie as tie
 
 returns : tie.Need-returns
-returns c =
-    let t = c .before .before .before .before .before .before .before .before .before .before .before .before .args .text .now in
-    let k = keyed-told t (sym (c .before .before .before .before .before .before .before .before .before .read-request .ensures) ∙ c .before .before .before .before .before .before .before .request .given .1) in
-    rw (sym (c .before .before .before .before .before .before .before .before .before .read-request .ensures), c .before .before .before .before .before .before .before .request .given .1, sym (c .before .before .before .before .before .sixteen-at .ensures ∙ fill-here t _ (replicate 16 0) (omega (arith, k .keyPlace, k .long))), sym (c .before .before .before .before .three-at .ensures ∙ fill-here t _ (replicate 3 0) (omega (arith, k .servicesPlace, k .long)))) (c .before .before .accept-ciphered .ensures)
+returns c e b =
+    let at-accept-ciphered = c .before .before in
+    let at-three-at = at-accept-ciphered .before .before in
+    let at-sixteen-at = at-three-at .before in
+    let at-request = at-sixteen-at .before .before in
+    let at-read-request = at-request .before .before in
+    let s = at-read-request .before .before .before in
+    let t = s .args .text .now in
+    let read = sym (at-read-request .read-request .ensures) in
+    let k = keyed-told t (read ∙ at-request .request .given .1) in
+    rw (read, at-request .request .given .1, sym (at-sixteen-at .sixteen-at .ensures ∙ fill-here t _ (replicate 16 0) (omega (arith, k .keyPlace, k .long))), sym (at-three-at .three-at .ensures ∙ fill-here t _ (replicate 3 0) (omega (arith, k .servicesPlace, k .long))))
+    (at-accept-ciphered .accept-ciphered .ensures e b)
 
 returns-2 : tie.Need-returns-2
-returns-2 c =
-    rw (sym (c .before .before .before .before .before .before .read-request .ensures), c .before .before .before .before .enum-told .given .1) (c .before .before .reject-aarq .ensures)
+returns-2 c e b =
+    let at-reject-aarq = c .before .before in
+    let at-enum-told = at-reject-aarq .before .before in
+    let at-read-request = at-enum-told .before .before in
+    rw (sym (at-read-request .read-request .ensures), at-enum-told .enum-told .given .1) (at-reject-aarq .reject-aarq .ensures b)
 
 pub initiate-spec : {M : Type 1} → statement M
-initiate-spec = tie.close (tie.spec (λ c κs. search needs) (λ c. search needs) (λ c κs. search needs) (λ c κs. search needs) (λ c κs. search needs) (λ c. search needs) (λ c κs. search needs) (λ c. search needs) returns (λ c. search needs) returns-2)
+initiate-spec =
+    tie.close
+    (tie.spec
+    (λ c κs. search needs)
+    (λ c. search needs)
+    (λ c κs. search needs)
+    (λ c κs. search needs)
+    (λ c κs. search needs)
+    (λ c. search needs)
+    (λ c κs. search needs)
+    (λ c. search needs)
+    returns
+    (λ c. search needs)
+    returns-2)

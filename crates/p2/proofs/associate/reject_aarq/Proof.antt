@@ -4,12 +4,20 @@ use Rattle.acse.specs.Aare.{rejectedAare}
 use Rattle.protocol.specs.Rulings.{aarqNotAccepted, apdu}
 use Rattle.p2.proofs.Endings.{says-kept}
 use borrow.Author.Needs.{needs}
+use Rattle.p2.specs.Promise.{meterWith}
 use Rattle.p2.proofs.associate.reject_aarq.Statement.{statement}
 use Rattle.p2.proofs.associate.reject_aarq.Tie as tie
 
 returns : tie.Need-returns
-returns c =
-    says-kept aarqNotAccepted (apdu (c .before .before .before .before .before .args .head) (rejectedAare (c .before .before .before .before .before .args .client))) (c .before .before .before .before .before .args .meter) refl (c .before .before .send-rejected .ensures)
+returns c b =
+    let at-send-rejected = c .before .before in
+    let s = at-send-rejected .before .before .before in
+    says-kept aarqNotAccepted (apdu (s .args .head) (rejectedAare (s .args .client))) (meterWith (s .args .line) b) refl (at-send-rejected .send-rejected .ensures)
 
 pub reject-aarq-spec : {M : Type 1} → statement M
-reject-aarq-spec = tie.close (tie.spec (λ c κs. search needs) (λ c. search needs) returns)
+reject-aarq-spec =
+    tie.close
+    (tie.spec
+    (λ c κs. search needs)
+    (λ c. search needs)
+    returns)

@@ -7,12 +7,34 @@ use Rattle.p2.proofs.challenge.answer_challenge.Statement.{statement}
 use Rattle.p2.proofs.challenge.answer_challenge.Tie as tie
 
 returns : tie.Need-returns
-returns c =
-    rw (sym (c .before .before .before .before .before .before .before .read-action .ensures) ∙ c .before .before .before .before .before .reading .given .1) (c .before .before .judge .ensures)
+returns c a e b =
+    let at-judge = c .before .before in
+    let at-reading = at-judge .before .before .before in
+    let at-read-action = at-reading .before .before in
+    rw (sym (at-read-action .read-action .ensures) ∙ at-reading .reading .given .1) (at-judge .judge .ensures a e b)
 
 returns-2 : tie.Need-returns-2
-returns-2 c =
-    rw (sym (c .before .before .before .before .before .before .before .read-action .ensures) ∙ c .before .before .before .before .before .enum-told .given .1, sym (c .before .before .before .before .accept-counter .ensures)) (c .before .before .except .ensures malformedApdu refl (λ d. accepted-same _ _ (c .before .before .before .before .accept-counter .ensures) d))
+returns-2 c a e b =
+    let at-except = c .before .before in
+    let at-accept-counter = at-except .before .before in
+    let at-enum-told = at-accept-counter .before in
+    let at-read-action = at-enum-told .before .before in
+    let s = at-read-action .before .before .before in
+    let next = at-accept-counter .accept-counter .ensures in
+    rw (sym (at-read-action .read-action .ensures) ∙ at-enum-told .enum-told .given .1, sym next)
+    (at-except .except .ensures (s .args .line) malformedApdu refl (λ d. accepted-same _ _ next d) b)
 
 pub answer-challenge-spec : {M : Type 1} → statement M
-answer-challenge-spec = tie.close (tie.spec (λ c κs. search needs) (λ c. search needs) (λ c κs. search needs) (λ c. search needs) (λ c κs. search needs) (λ c κs. search needs) (λ c. search needs) returns (λ c. search needs) returns-2)
+answer-challenge-spec =
+    tie.close
+    (tie.spec
+    (λ c κs. search needs)
+    (λ c. search needs)
+    (λ c κs. search needs)
+    (λ c. search needs)
+    (λ c κs. search needs)
+    (λ c κs. search needs)
+    (λ c. search needs)
+    returns
+    (λ c. search needs)
+    returns-2)

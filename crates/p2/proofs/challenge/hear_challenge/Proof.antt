@@ -5,27 +5,71 @@ use Rattle.protocol.specs.Decide.{challengeEnclosed}
 use Rattle.p2.proofs.Endings.{follows, nothing-sent, says-kept}
 use Rattle.p2.proofs.Envelopes.{admits-unopened, admits-outside, admits-inside, admitted-size}
 use borrow.Author.Needs.{needs}
+use Rattle.p2.specs.Promise.{meterWith}
 use Rattle.p2.proofs.challenge.hear_challenge.Statement.{statement}
 use Rattle.p2.proofs.challenge.hear_challenge.Tie as tie
 
 part-answer-challenge-end : tie.Need-part-answer-challenge-end
 part-answer-challenge-end c =
-    admitted-size (c .before .before .before .before .admit-envelope .ensures) (c .before .before .admission .given .1)
+    let at-admission = c .before .before in
+    let at-admit-envelope = at-admission .before .before in
+    admitted-size (at-admit-envelope .admit-envelope .ensures) (at-admission .admission .given .1)
 
 returns : tie.Need-returns
 unfolding challengeEnclosed
-returns c =
-    rw (c .kept .ensures) (follows (admits-unopened 0xCB (c .before .before .before .before .before .before .before .before .before .before .before .args .apdu .now) (c .before .before .before .before .before .before .lent-keys .ensures) (c .before .before .before .before .before .title-of .ensures) (c .before .before .before .before .before .before .before .before .before .before .before .args .meter .line) _ (c .before .before .before .admit-envelope .ensures) (c .before .enum-told .given .1)) (says-kept envelopeUnopened nothing (c .before .before .before .before .before .before .before .before .before .before .before .args .meter) refl (nothing-sent _)))
+returns c b =
+    let at-enum-told = c .before in
+    let at-admit-envelope = at-enum-told .before .before in
+    let at-title-of = at-admit-envelope .before .before in
+    let at-lent-keys = at-title-of .before in
+    let s = at-lent-keys .before .before .before .before in
+    rw (c .kept .ensures)
+    (follows
+    (admits-unopened 0xCB (s .args .apdu .now) (at-lent-keys .lent-keys .ensures) (at-title-of .title-of .ensures) (s .args .line) _ (at-admit-envelope .admit-envelope .ensures) (at-enum-told .enum-told .given .1))
+    (says-kept envelopeUnopened nothing (meterWith (s .args .line) b) refl (nothing-sent _)))
 
 returns-2 : tie.Need-returns-2
 unfolding challengeEnclosed
-returns-2 c =
-    follows (admits-outside 0xCB (c .before .before .before .before .before .before .before .before .before .before .before .args .apdu .now) (c .before .before .before .before .before .before .lent-keys .ensures) (c .before .before .before .before .before .title-of .ensures) (c .before .before .before .before .before .before .before .before .before .before .before .args .meter .line) _ (c .before .before .before .admit-envelope .ensures) (c .before .enum-told2 .given .1)) (c .drop-association .ensures _)
+returns-2 c b =
+    let at-enum-told2 = c .before in
+    let at-admit-envelope = at-enum-told2 .before .before in
+    let at-title-of = at-admit-envelope .before .before in
+    let at-lent-keys = at-title-of .before in
+    let s = at-lent-keys .before .before .before .before in
+    follows
+    (admits-outside 0xCB (s .args .apdu .now) (at-lent-keys .lent-keys .ensures) (at-title-of .title-of .ensures) (s .args .line) _ (at-admit-envelope .admit-envelope .ensures) (at-enum-told2 .enum-told2 .given .1))
+    (c .drop-association .ensures _ b)
 
 returns-3 : tie.Need-returns-3
 unfolding challengeEnclosed
-returns-3 c =
-    follows (admits-inside 0xCB (c .before .before .before .before .before .before .before .before .before .before .before .before .before .before .before .before .before .args .apdu .now) (c .before .before .before .before .before .before .before .before .before .before .before .before .lent-keys .ensures) (c .before .before .before .before .before .before .before .before .before .before .before .title-of .ensures) (c .before .before .before .before .before .before .before .before .before .before .before .before .before .before .before .before .before .args .meter .line) _ (c .before .before .before .before .before .before .before .before .before .admit-envelope .ensures) (c .before .before .before .before .before .before .before .admission .given .1)) (c .before .before .answer-challenge .ensures)
+returns-3 c b =
+    let at-answer-challenge = c .before .before in
+    let at-admission = at-answer-challenge .before .before .before .before .before in
+    let at-admit-envelope = at-admission .before .before in
+    let at-title-of = at-admit-envelope .before .before in
+    let at-lent-keys = at-title-of .before in
+    let s = at-lent-keys .before .before .before .before in
+    follows
+    (admits-inside 0xCB (s .args .apdu .now) (at-lent-keys .lent-keys .ensures) (at-title-of .title-of .ensures) (s .args .line) _ (at-admit-envelope .admit-envelope .ensures) (at-admission .admission .given .1))
+    (at-answer-challenge .answer-challenge .ensures (s .args .secrets) (at-lent-keys .lent-keys .ensures) b)
 
 pub hear-challenge-spec : {M : Type 1} → statement M
-hear-challenge-spec = tie.close (tie.spec (λ c κs. search needs) (λ c κs. search needs) (λ c κs. search needs) (λ c. search needs) (λ c κs. search needs) (λ c. search needs) (λ c κs. search needs) (λ c. search needs) (λ c. search needs) (λ c. search needs) part-answer-challenge-end (λ c κs. search needs) returns returns-2 (λ c. search needs) returns-3)
+hear-challenge-spec =
+    tie.close
+    (tie.spec
+    (λ c κs. search needs)
+    (λ c κs. search needs)
+    (λ c κs. search needs)
+    (λ c. search needs)
+    (λ c κs. search needs)
+    (λ c. search needs)
+    (λ c κs. search needs)
+    (λ c. search needs)
+    (λ c. search needs)
+    (λ c. search needs)
+    part-answer-challenge-end
+    (λ c κs. search needs)
+    returns
+    returns-2
+    (λ c. search needs)
+    returns-3)

@@ -8,13 +8,37 @@ use Rattle.protocol.specs.Clients.{associates, agreedIn, keyIn}
 use Rattle.model.specs.State.{associated}
 use Rattle.model.specs.declared.Client.the-variants.{Han}
 use borrow.Author.Needs.{needs}
+use Rattle.p2.specs.Promise.{meterWith}
 use Rattle.p2.proofs.challenge.prove.Statement.{statement}
 use Rattle.p2.proofs.challenge.prove.Tie as tie
 
 returns : tie.Need-returns
 unfolding proved lineOf
-returns c =
-    rw (c .answered .ensures, sym (c .before .before .before .before .before .before .before .lent-keys .ensures), sym (c .before .before .before .before .before .before .client-challenge .ensures), sym (c .before .before .before .before .before .before .before .before .before .before .accept .ensures), sym (c .before .before .before .before .before .before .before .before .before .take .ensures), sym (c .before .before .before .before .before .before .before .before .take2 .ensures)) (says-line none _ (c .before .before .before .before .before .before .before .before .before .before .before .before .before .before .before .args .meter) refl (c .before .before .before .send-proof .ensures) _ (c .before .before .before .before .before .associated-ciphered .ensures .view) refl (counted (c .before .before .before .before .before .associated-ciphered .result) (c .before .before .before .before .before .before .before .before .take2 .result .counters) (associates Han (associated (agreedIn ((lineOf (c .before .before .before .before .before .before .before .before .before .before .before .before .before .before .before .args .meter .line)) .han .peer .association)) (keyIn ((lineOf (c .before .before .before .before .before .before .before .before .before .before .before .before .before .before .before .args .meter .line)) .han .peer .association))) (lineOf (c .before .before .before .before .before .before .before .before .before .before .before .before .before .before .before .args .meter .line))) (stands-one (c .before .before .before .before .before .associated-ciphered .result) Han (associated (agreedIn ((lineOf (c .before .before .before .before .before .before .before .before .before .before .before .before .before .before .before .args .meter .line)) .han .peer .association)) (keyIn ((lineOf (c .before .before .before .before .before .before .before .before .before .before .before .before .before .before .before .args .meter .line)) .han .peer .association))) (lineOf (c .before .before .before .before .before .before .before .before .before .before .before .before .before .before .before .args .meter .line)) refl)))
+returns c a e b =
+    let at-send-proof = c .before .before in
+    let at-associated-ciphered = at-send-proof .before .before in
+    let at-client-challenge = at-associated-ciphered .before in
+    let at-take2 = at-client-challenge .before in
+    let at-take = at-take2 .before in
+    let at-accept = at-take .before in
+    let s = at-accept .before .before .before .before in
+    let l = lineOf (s .args .line) in
+    let held = l .han .peer .association in
+    let after = associated (agreedIn held) (keyIn held) in
+    rw (sym e, sym (at-client-challenge .client-challenge .ensures), sym (at-accept .accept .ensures), sym (at-take .take .ensures), sym (at-take2 .take2 .ensures))
+    (says-line none _ (meterWith (s .args .line) b) refl (at-send-proof .send-proof .ensures) _ (at-associated-ciphered .associated-ciphered .ensures .view) refl
+    (counted (at-associated-ciphered .associated-ciphered .result) (at-take2 .take2 .result .counters) (associates Han after l)
+    (stands-one (at-associated-ciphered .associated-ciphered .result) Han after l refl)))
 
 pub prove-spec : {M : Type 1} → statement M
-prove-spec = tie.close (tie.spec (λ c κs. search needs) (λ c κs. search needs) (λ c κs. search needs) (λ c κs. search needs) (λ c κs. search needs) (λ c κs. search needs) (λ c κs. search needs) (λ c κs. search needs) (λ c. search needs) returns)
+prove-spec =
+    tie.close
+    (tie.spec
+    (λ c κs. search needs)
+    (λ c κs. search needs)
+    (λ c κs. search needs)
+    (λ c κs. search needs)
+    (λ c κs. search needs)
+    (λ c κs. search needs)
+    (λ c. search needs)
+    returns)

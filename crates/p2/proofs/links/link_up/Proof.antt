@@ -9,27 +9,57 @@ use Rattle.line.specs.View.{lineOf}
 use Rattle.protocol.specs.Clients.{linked, peer}
 use mathlib.Core.Bool.{true}
 use borrow.Author.Needs.{needs}
+use Rattle.p2.specs.Promise.{meterWith}
 use Rattle.p2.proofs.links.link_up.Statement.{statement}
 use Rattle.p2.proofs.links.link_up.Tie as tie
 
 returns : tie.Need-returns
 unfolding linkUp
-returns c =
-    rw (c .before .before .before .before .if1 .taken) (c .before .before .refuse .ensures linkUpWithInformation refl)
+returns c b =
+    let at-refuse = c .before .before in
+    let at-if1 = at-refuse .before .before in
+    rw (at-if1 .if1 .taken) (at-refuse .refuse .ensures linkUpWithInformation refl b)
 
 returns-2 : tie.Need-returns-2
 unfolding linkUp
-returns-2 c =
-    rw (c .before .before .before .before .before .before .if1 .left, sym (c .before .before .before .before .before .is-held-by-p5 .ensures) ∙ c .before .before .before .before .if2 .taken) (c .before .before .refuse2 .ensures p5HoldsV refl)
+returns-2 c b =
+    let at-refuse2 = c .before .before in
+    let at-if2 = at-refuse2 .before .before in
+    let at-is-held-by-p5 = at-if2 .before in
+    let at-if1 = at-is-held-by-p5 .before in
+    rw (at-if1 .if1 .left, sym (at-is-held-by-p5 .is-held-by-p5 .ensures) ∙ at-if2 .if2 .taken) (at-refuse2 .refuse2 .ensures p5HoldsV refl b)
 
 put-ua-requires : tie.Need-put-ua-requires
 put-ua-requires c κs =
-    omega (arith, reply-room, c .before .before .before .before .before .before .before .pre)
+    let s = c .before .before .before .before .before .before in
+    omega (arith, reply-room, s .pre)
 
 returns-3 : tie.Need-returns-3
 unfolding linkUp
-returns-3 c =
-    rw (c .answered .ensures, c .before .before .before .before .before .before .before .before .if1 .left, sym (c .before .before .before .before .before .before .before .is-held-by-p5 .ensures) ∙ c .before .before .before .before .before .before .if2 .left) (says-line none (ua (c .before .before .before .before .before .before .before .before .before .before .before .args .head)) (c .before .before .before .before .before .before .before .before .before .before .before .args .meter) refl (c .before .before .before .put-ua .ensures) _ (c .before .before .before .before .before .with-link .ensures .view) refl (ends-one (c .before .before .before .before .before .with-link .result) (c .before .before .before .before .before .before .before .before .before .before .before .args .client) (linked true (peer (c .before .before .before .before .before .before .before .before .before .before .before .args .client) (lineOf (c .before .before .before .before .before .before .before .before .before .before .before .args .meter .line)))) (lineOf (c .before .before .before .before .before .before .before .before .before .before .before .args .meter .line)) (c .before .before .before .before .before .with-link .ensures .wiped)))
+returns-3 c b =
+    let at-put-ua = c .before .before in
+    let at-with-link = at-put-ua .before .before in
+    let at-if2 = at-with-link .before in
+    let at-is-held-by-p5 = at-if2 .before in
+    let at-if1 = at-is-held-by-p5 .before in
+    let s = at-if1 .before .before in
+    let l = lineOf (s .args .line) in
+    rw (at-if1 .if1 .left, sym (at-is-held-by-p5 .is-held-by-p5 .ensures) ∙ at-if2 .if2 .left)
+    (says-line none (ua (s .args .head)) (meterWith (s .args .line) b) refl (at-put-ua .put-ua .ensures) _ (at-with-link .with-link .ensures .view) refl
+    (ends-one (at-with-link .with-link .result) (s .args .client) (linked true (peer (s .args .client) l)) l (at-with-link .with-link .ensures .wiped)))
 
 pub link-up-spec : {M : Type 1} → statement M
-link-up-spec = tie.close (tie.spec (λ c κs. search needs) (λ c. search needs) returns (λ c κs. search needs) (λ c κs. search needs) (λ c. search needs) returns-2 (λ c κs. search needs) put-ua-requires (λ c κs. search needs) (λ c. search needs) returns-3)
+link-up-spec =
+    tie.close
+    (tie.spec
+    (λ c κs. search needs)
+    (λ c. search needs)
+    returns
+    (λ c κs. search needs)
+    (λ c κs. search needs)
+    (λ c. search needs)
+    returns-2
+    (λ c κs. search needs)
+    put-ua-requires
+    (λ c. search needs)
+    returns-3)

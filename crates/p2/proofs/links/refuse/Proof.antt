@@ -5,15 +5,25 @@ use Rattle.model.proofs.LimitFacts.{reply-room}
 use Rattle.protocol.specs.Rulings.{dm}
 use Rattle.p2.proofs.Endings.{says-kept}
 use borrow.Author.Needs.{needs}
+use Rattle.p2.specs.Promise.{meterWith}
 use Rattle.p2.proofs.links.refuse.Statement.{statement}
 use Rattle.p2.proofs.links.refuse.Tie as tie
 
 put-dm-requires : tie.Need-put-dm-requires
-put-dm-requires c κs = omega (arith, reply-room, c .before .before .pre)
+put-dm-requires c κs =
+    let s = c .before .before in
+    omega (arith, reply-room, s .pre)
 
 returns : tie.Need-returns
-returns c =
-    λ t e. says-kept t (dm (c .before .before .before .before .before .args .head)) (c .before .before .before .before .before .args .meter) (sym e) (c .before .before .put-dm .ensures)
+returns c t e b =
+    let at-put-dm = c .before .before in
+    let s = at-put-dm .before .before .before in
+    says-kept t (dm (s .args .head)) (meterWith (s .args .line) b) (sym e) (at-put-dm .put-dm .ensures)
 
 pub refuse-spec : {M : Type 1} → statement M
-refuse-spec = tie.close (tie.spec put-dm-requires (λ c. search needs) returns)
+refuse-spec =
+    tie.close
+    (tie.spec
+    put-dm-requires
+    (λ c. search needs)
+    returns)

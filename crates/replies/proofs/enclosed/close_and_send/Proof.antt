@@ -3,6 +3,7 @@ use native.Mathlib.Omega.{arith}
 use borrow.Author.Needs.{needs}
 use Rattle.model.proofs.LimitFacts.{reply-room, apdu-room, text-room}
 use Rattle.envelope.proofs.CloseLaws.{envelope-fits, envelope-size}
+use Rattle.envelope.specs.Layout.{keysOf}
 use Rattle.replies.proofs.SendLaws.{closed, closed-end}
 use Rattle.replies.proofs.enclosed.close_and_send.Statement.{statement}
 use Rattle.replies.proofs.enclosed.close_and_send.Tie as tie
@@ -22,7 +23,7 @@ put-data-requires c κs =
     let apdu = apdu-room in
     let fits = envelope-fits (a .n) (search needs) in
     let size = envelope-size (a .n) in
-    let end = closed-end (a .keys) (a .title) (a .tag) (a .counter) (a .n) (omega arith) (envelope .close-envelope .ensures) in
+    let end = closed-end (keysOf (a .keys)) (a .title) (a .tag) (a .counter) (a .n) (omega arith) (envelope .close-envelope .ensures) in
     search needs
 
 returns : tie.Need-returns
@@ -31,7 +32,7 @@ returns c =
     let apdu = frame .before .before .before .before in
     let llc = apdu .before .before .before .before in
     let a = llc .before .before .before .args in
-    closed (a .head) (a .keys) (a .title) (a .tag) (a .counter) (a .n) (llc .put-llc .ensures) (apdu .close-envelope .ensures) (frame .put-data .ensures)
+    closed (a .head) (keysOf (a .keys)) (a .title) (a .tag) (a .counter) (a .n) (llc .put-llc .ensures) (apdu .close-envelope .ensures) (frame .put-data .ensures)
 
 pub close-and-send-spec : {M : Type 1} → statement M
 close-and-send-spec =

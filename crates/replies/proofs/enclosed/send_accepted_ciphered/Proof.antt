@@ -9,6 +9,7 @@ use Rattle.wire.proofs.WroteLaws.{then}
 use Rattle.acse.specs.Initiate.{initiateResponse}
 use Rattle.envelope.proofs.CloseLaws.{envelope-size}
 use Rattle.hdlc.proofs.ReplyLaws.{apdu-framed}
+use Rattle.envelope.specs.Layout.{keysOf}
 use Rattle.replies.proofs.SendLaws.{closed-around, closed-end, head-limits}
 use Rattle.replies.proofs.enclosed.send_accepted_ciphered.Statement.{statement}
 use Rattle.replies.proofs.enclosed.send_accepted_ciphered.Tie as tie
@@ -30,7 +31,7 @@ put-data-requires c κs =
     let room = reply-room in
     let head = head-limits 14 in
     let size = envelope-size 14 in
-    let end = closed-end (a .keys) (a .t5) 0x28 (a .counter) 14 (omega (arith, text .put-initiate-response .ensures, aare .put-accepted-head .ensures, llc .put-llc .ensures)) (envelope .close-envelope .ensures) in
+    let end = closed-end (keysOf (a .keys)) (a .t5) 0x28 (a .counter) 14 (omega (arith, text .put-initiate-response .ensures, aare .put-accepted-head .ensures, llc .put-llc .ensures)) (envelope .close-envelope .ensures) in
     search needs
 
 returns : tie.Need-returns
@@ -45,7 +46,7 @@ returns c =
     let t = initiateResponse (a .t7) in
     apdu-framed (a .head) (llc .put-llc .ensures)
     (then (aare .put-accepted-head .ensures .wrote)
-    (closed-around (a .keys) (a .t5) 0x28 (a .counter) 14 t (text .put-initiate-response .ensures .sized)
+    (closed-around (keysOf (a .keys)) (a .t5) 0x28 (a .counter) 14 t (text .put-initiate-response .ensures .sized)
     (ap (λ (k : ℕ). aare .put-accepted-head .result + k) (size .head-size .ensures)) (text .put-initiate-response .ensures .wrote)
     (envelope .close-envelope .ensures)))
     (frame .put-data .ensures)

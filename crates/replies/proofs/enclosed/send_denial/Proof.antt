@@ -4,6 +4,7 @@ use Prim.Native.Nat.{ℕ, _+_}
 use borrow.Author.Needs.{needs}
 use Rattle.model.specs.Objects.{actionAnswer, denied}
 use Rattle.model.proofs.LimitFacts.{reply-room, text-room}
+use Rattle.envelope.specs.Layout.{keysOf}
 use Rattle.replies.proofs.SendLaws.{enclosed, head-limits}
 use Rattle.replies.proofs.enclosed.send_denial.Statement.{statement}
 use Rattle.replies.proofs.enclosed.send_denial.Tie as tie
@@ -14,7 +15,7 @@ returns c =
     let text = frame .before .before .before .before in
     let size = text .before .before .before in
     let a = size .before .before .args in
-    enclosed (a .head) (a .keys) (a .title) 0xCF (a .counter) 5 (actionAnswer (a .invoke) (denied (a .code))) refl
+    enclosed (a .head) (keysOf (a .keys)) (a .title) 0xCF (a .counter) 5 (actionAnswer (a .invoke) (denied (a .code))) refl
     (ap (λ (k : ℕ). 11 + k) (size .head-size .ensures)) (text .put-all .ensures) (frame .close-and-send .ensures)
 
 pub send-denial-spec : {M : Type 1} → statement M

@@ -6,6 +6,7 @@ use lib.ListN.{take, drop}
 use borrow.Author.Needs.{needs}
 use Rattle.model.proofs.LimitFacts.{reply-room, text-room}
 use Rattle.wire.proofs.WroteLaws.{length-stretch}
+use Rattle.envelope.specs.Layout.{keysOf}
 use Rattle.replies.proofs.SendLaws.{enclosed, head-limits}
 use Rattle.replies.proofs.enclosed.send_enclosed.Statement.{statement}
 use Rattle.replies.proofs.enclosed.send_enclosed.Tie as tie
@@ -23,7 +24,7 @@ returns c =
     let size = text .before .before in
     let a = size .before .before .args in
     let t = take (a .n) (drop 20 (a .out .now)) in
-    enclosed (a .head) (a .keys) (a .title) (a .tag) (a .counter) (a .n) t (length-stretch (a .out .now) 20 (a .n) (omega (arith, reply-room, text-room)))
+    enclosed (a .head) (keysOf (a .keys)) (a .title) (a .tag) (a .counter) (a .n) t (length-stretch (a .out .now) 20 (a .n) (omega (arith, reply-room, text-room)))
     (ap (λ (k : ℕ). 11 + k) (size .head-size .ensures)) (text .move-down .ensures) (frame .close-and-send .ensures)
 
 pub send-enclosed-spec : {M : Type 1} → statement M

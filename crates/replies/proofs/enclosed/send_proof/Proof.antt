@@ -6,6 +6,7 @@ use borrow.Author.Needs.{needs}
 use Rattle.model.proofs.LimitFacts.{reply-room, text-room}
 use Rattle.wire.proofs.WroteLaws.{then}
 use Rattle.protocol.specs.Decide.{provedText}
+use Rattle.envelope.specs.Layout.{keysOf}
 use Rattle.replies.proofs.SendLaws.{enclosed, head-limits, length-proved}
 use Rattle.replies.proofs.enclosed.send_proof.Statement.{statement}
 use Rattle.replies.proofs.enclosed.send_proof.Tie as tie
@@ -18,8 +19,8 @@ returns c =
     let answer = proof .before .before .before .before in
     let size = answer .before .before .before in
     let a = size .before .before .args in
-    enclosed (a .head) (a .keys) (a .title) 0xCF (a .second) 25 (provedText (a .keys) (a .title) (a .challenge) (a .invoke) (a .first))
-    (length-proved (a .keys) (a .title) (a .challenge) (a .invoke) (a .first))
+    enclosed (a .head) (keysOf (a .keys)) (a .title) 0xCF (a .second) 25 (provedText (keysOf (a .keys)) (a .title) (a .challenge) (a .invoke) (a .first))
+    (length-proved (keysOf (a .keys)) (a .title) (a .challenge) (a .invoke) (a .first))
     (ap (λ (k : ℕ). 11 + k) (size .head-size .ensures)) (then (answer .put-all .ensures) (proof .put-proof .ensures)) (frame .close-and-send .ensures)
 
 pub send-proof-spec : {M : Type 1} → statement M

@@ -1,0 +1,30 @@
+-- A meter whose halves are cleared; and specs/Canonical's statement, proved.
+use mathlib.Core.Path.{_≡_, sym, ap, _∙_}
+use Rattle.model.specs.Soundness.{sound}
+use Rattle.model.proofs.ListLaws.{both}
+use Rattle.line.specs.declared.LineState.{LineState}
+use Rattle.line.specs.View.{lineOf, lineSound}
+use Rattle.line.specs.Canonical.{clearedLine}
+use Rattle.line.proofs.ClearLaws.{line-same, line-canonical}
+use Rattle.body.specs.declared.BodyState.{BodyState}
+use Rattle.body.specs.View.{bodyOf, bodySound}
+use Rattle.body.specs.Canonical.{ClearsBody}
+use Rattle.meter.specs.declared.Meter.{Meter}
+use Rattle.meter.specs.View.{view}
+use Rattle.meter.specs.Canonical.{clearedMeter, canonical, Cleared, SameOnceCleared}
+use Rattle.meter.proofs.MeterLaws.{sound-is}
+
+pub meter-clear : (m : Meter) (l : LineState) (b : BodyState) → l ≡ clearedLine (m .line) → ClearsBody (m .body) b → Cleared m (record { line = l; body = b })
+unfolding view clearedMeter canonical
+meter-clear m l b e p =
+    let line = ap lineOf e ∙ line-same (m .line) in
+    record {
+      is = λ i. record { line = e i; body = p .is i };
+      same = λ i. record { line = line i; body = p .same i };
+      canonical = λ s.
+          let body = both (bodySound (bodyOf (m .body))) (lineSound (lineOf (m .line))) (sym (sound-is m) ∙ s) .0 in
+          λ i. record { line = (e ∙ line-canonical (m .line)) i; body = p .canonical body i };
+    }
+
+pub same-once-cleared : SameOnceCleared
+same-once-cleared m₁ m₂ r₁ r₂ s e c₁ c₂ = c₁ .canonical s ∙ ap canonical e ∙ sym (c₂ .canonical (sym (ap sound e) ∙ s))
