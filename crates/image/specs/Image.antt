@@ -33,7 +33,7 @@ meterOf s = meterPart .value (drop 1 s)
 unfoldable pub blankMeter : Meter
 blankMeter = meterPart .value (replicate (meterPart .size) 0)
 
--- the same of bytes that may be no image: the blank one where they have another length
+-- the meter in bytes that may be no image: the blank one where they have another length
 unfoldable pub meterIn : List ℕ → Meter
 meterIn s = cond (eqb (length s) imageSize) (meterOf s) blankMeter
 
