@@ -1,7 +1,5 @@
 // The script program: calls on a meter, read from standard input one a line, each answered by one line on standard output.
 // What a call does, and the text of lines and answers, is in the libraries. docs/SCRIPT.md has the format.
-mod calls;
-
 use libc::STDERR_FILENO;
 use libc::STDIN_FILENO;
 use meter::Meter;
@@ -137,7 +135,7 @@ fn answered(mut session: Session, line: &[u8; LONGEST], out: &mut [u8; answer::R
         return session;
     }
     let mut reply = [answer::FILL; answer::REPLY];
-    let done = calls::made(
+    let done = script_calls::made(
         session.meter,
         lines::first(line, n),
         n <= LONGEST,

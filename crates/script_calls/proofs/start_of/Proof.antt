@@ -1,9 +1,9 @@
--- `script::calls::start_of` is safe: what it lends lies within the reply buffer.
+-- `script_calls::start_of` is safe: what it lends lies within the reply buffer.
 use mathlib.Core.Path.{sym}
 use lib.Seq.{length-take-le}
 use borrow.Author.Needs.{needs}
-use Rattle.script.proofs.calls.start_of.Statement.{statement}
-use Rattle.script.proofs.calls.start_of.Tie as tie
+use Rattle.script_calls.proofs.start_of.Statement.{statement}
+use Rattle.script_calls.proofs.start_of.Tie as tie
 
 slice-aggregate-result : tie.Need-slice-aggregate-result
 slice-aggregate-result c = sym (length-take-le _ _ (search needs))

@@ -1,4 +1,4 @@
-// The calls, a function for each verb: the fields are read to the end of the line, and then the call is made. A line that
+// The calls of the script program, a function for each verb: the fields are read to the end of the line, and then the call is made. A line that
 // cannot be read makes no call and leaves the meter as it is.
 use image::Status;
 use meter::Changed;
@@ -210,7 +210,7 @@ fn dump(meter: Meter, line: &[u8], from: Cursor, reply: &mut [u8]) -> Done {
     if !end.good {
         return unread(meter, end);
     }
-    image::write_image(meter, start_of(reply, image::SIZE));
+    image::write_image(meter.cleared(), start_of(reply, image::SIZE));
     Done {
         meter,
         column: 0,
