@@ -6,6 +6,7 @@ pub mod ObjectLaws
 pub mod SoundnessLaws
 pub mod HidingLaws
 pub mod AnswerLaws
+pub mod WorkedAnswers
 pub mod Noninterference
 pub mod Honesty
 pub mod KeptRows

@@ -47,7 +47,7 @@ use Rattle.acse.proofs.Layouts.{length-plain, length-head}
 use Rattle.acse.proofs.ServiceLaws.{length-common}
 use Rattle.counters.specs.Advance.{taken}
 use Rattle.counters.specs.Window.{inWindow, accepting}
-use Rattle.envelope.specs.Layout.{sealedEnvelope}
+use Rattle.envelope.specs.Layout.{Keys, sealedEnvelope}
 use Rattle.envelope.specs.Opening.{Opened, fails, opens, opened}
 use Rattle.envelope.specs.Challenge.{proofValue}
 use Rattle.envelope.proofs.CloseLaws.{length-envelope, envelope-size, envelope-fits}
@@ -110,6 +110,12 @@ plain-alone c title s {d} {e} p q = go (isLaid (plainAarq c title) s 0) (rw p at
     go true r = let z : _≡_ {A = ℕ} 0 1 = cc in omega arith
     go false r = let z : _≡_ {A = ℕ} 0 1 = cc in omega arith
 
+-- the answer to a proof: C7 01, the invoke byte, 00 01 00, and the meter's own proof
+length-proved : (k : Keys) (title challenge : List ℕ) (invoke number : ℕ) → length (provedText k title challenge invoke number) ≡ 25
+unfolding provedText
+length-proved k title challenge invoke number =
+    omega (arith, length-append (0xC7 ∷ 0x01 ∷ invoke ∷ 0x00 ∷ 0x01 ∷ 0x00 ∷ []) (proofValue k title challenge number), length-proof k title challenge number)
+
 module _ (l : Line) (a : Secrets) (f : List ℕ) where
   abbrev h : Head
   h = headOf f
@@ -124,6 +130,12 @@ module _ (l : Line) (a : Secrets) (f : List ℕ) where
   ruled-if : (b : Bool) (x y : Ruling) → (b ≡ true → Is x) → (b ≡ false → Is y) → Is (cond b x y)
   ruled-if true x y p q = p refl
   ruled-if false x y p q = q refl
+
+  -- an envelope around the answer to a proof fits, whatever it is sealed with
+  sealed-fits : (k : Keys) (title : List ℕ) (tag number : ℕ) (text : List ℕ) → length text ≡ 25 → Fits l a (sealedEnvelope k title tag number text)
+  sealed-fits k title tag number text size _ _ =
+      let n = length-envelope k title tag number text in
+      (omega (arith, envelope-size (length text)), omega (arith, envelope-fits (length text) (omega (arith, text-room))))
 
   -- Links.
 
@@ -192,18 +204,8 @@ module _ (l : Line) (a : Secrets) (f : List ℕ) where
     -- The challenge.
 
     rules-proved : (invoke counter : ℕ) → Is (proved l a h invoke counter)
-    unfolding proved provedText
-    rules-proved invoke counter =
-        let k = lentKeys a in
-        let first = taken (accepting (l .han .counters) counter) in
-        let number = taken (first .counters) .number in
-        let proof = proofValue k (l .title) (clientChallenge (l .han .peer .association)) (first .number) in
-        let start : List ℕ = 0xC7 ∷ 0x01 ∷ invoke ∷ 0x00 ∷ 0x01 ∷ 0x00 ∷ [] in
-        let size : length (start ++ proof) ≡ 25 = omega (arith, length-append start proof, length-proof k (l .title) (clientChallenge (l .han .peer .association)) (first .number)) in
-        tells (sealedEnvelope k (l .title) 0xCF number (start ++ proof)) _
-        (λ _ _.
-        let n = length-envelope k (l .title) 0xCF number (start ++ proof) in
-        (omega (arith, envelope-size (length (start ++ proof))), omega (arith, envelope-fits (length (start ++ proof)) (omega (arith, text-room)))))
+    unfolding proved
+    rules-proved invoke counter = tells _ _ (sealed-fits _ _ _ _ _ (length-proved _ _ _ _ _))
 
     rules-challenged : (counter : ℕ) (text : List ℕ) (q : Asked) → Opens a f l 0xCB counter text → InWindow l counter → Is (challenged l a h counter text q)
     unfolding challenged

@@ -37,12 +37,12 @@ use Rattle.acse.specs.Initiate.{initiateResponse}
 use Rattle.acse.specs.Aare.{plainAare, cipheredAareHead}
 use Rattle.counters.specs.Advance.{nextCounter}
 use Rattle.counters.specs.Window.{windowSize}
-use Rattle.envelope.specs.Layout.{sealedEnvelope}
+use Rattle.envelope.specs.Layout.{Keys, keysFrom, sealedEnvelope}
 use Rattle.envelope.specs.Opening.{opens, opened}
 use Rattle.envelope.specs.Challenge.{proofValue}
 use Rattle.meter.specs.SameSecond.{nextRow}
-use Rattle.protocol.specs.Clients.{peer, withPeer, linked, associates, withCounters, agreedIn, selectiveIn, lentKeys, dedicatedKeys, isAssociated, bitAgreed}
-use Rattle.protocol.specs.Decide.{readInside, accepted, advanced, provedText, secretsOf, p2}
+use Rattle.protocol.specs.Clients.{peer, withPeer, linked, associates, withCounters, agreedIn, keyIn, selectiveIn, isAssociated, bitAgreed}
+use Rattle.protocol.specs.Decide.{readInside, accepted, advanced, provedText, p2}
 use Rattle.protocol.specs.Examples.{linkUpFrame}
 use Rattle.protocol.specs.Outcomes.{outcome, headIn, apduOf, said, Enclosed, Accepted, toH}
 
@@ -158,6 +158,14 @@ unfoldable pub proofOfH : (invoke : ℕ) → (proof : List ℕ) → List ℕ
 proofOfH invoke proof =
     (0xC3 ∷ 0x01 ∷ invoke ∷ 0x00 ∷ 0x0F ∷ 0x00 ∷ 0x00 ∷ 0x28 ∷ 0x00 ∷ 0x04 ∷ 0xFF ∷ 0x01 ∷ 0x01 ∷ []) ++ proof
 
+-- The keys are those that H has, told here apart from the meter's `lentKeys` and `dedicatedKeys`: GUK, and AK beside it, until it
+-- is associated; then its dedicated key, and AK beside it.
+abbrev pub entranceKeys : Lent → Keys
+entranceKeys a = keysFrom (a .guk) (a .ak)
+
+abbrev pub requestKeys : Lent → Line → Keys
+requestKeys a l = keysFrom (keyIn (l .han .peer .association)) (a .ak)
+
 -- what H sends: its dedicated key and challenge, its services and size, the counters of its AARQ, of its proof and of the
 -- envelope around that, and the invoke byte
 pub record Entrance : Type 0 where
@@ -190,12 +198,12 @@ pub record Enters (title : List ℕ) (e : Entrance) (link aarq proof : Lent) : T
       aarq .received
       ≡ requestFrame Han
       (aarqOfH title (e .challenge)
-      (sealedEnvelope (lentKeys (secretsOf aarq)) title 0x21 (e .first) (initiateOfH (e .key) (e .services) (e .size))))
+      (sealedEnvelope (entranceKeys aarq) title 0x21 (e .first) (initiateOfH (e .key) (e .services) (e .size))))
   pub proves :
       proof .received
       ≡ requestFrame Han
-      (sealedEnvelope (lentKeys (secretsOf proof)) title 0xCB (e .outer)
-      (proofOfH (e .invoke) (proofValue (lentKeys (secretsOf proof)) title (aarq .challenge) (e .inner))))
+      (sealedEnvelope (entranceKeys proof) title 0xCB (e .outer)
+      (proofOfH (e .invoke) (proofValue (entranceKeys proof) title (aarq .challenge) (e .inner))))
 
 -- each is accepted. The AARE's envelope goes out under the meter's counter plus one, and H is pending; the meter's proof goes out
 -- under the next, its envelope under the one after, and H is associated with the services agreed and its key.
@@ -208,14 +216,14 @@ pub record LetInH (m : Model) (e : Entrance) (link aarq proof : Lent) : Type 0 w
       said 0
       (apduFrame (headIn aarq)
       (cipheredAareHead Han (m .line .title) (aarq .challenge)
-      ++ sealedEnvelope (lentKeys (secretsOf aarq)) (m .line .title) 0x28 (nextCounter sent) (initiateResponse agreed)))
+      ++ sealedEnvelope (entranceKeys aarq) (m .line .title) 0x28 (nextCounter sent) (initiateResponse agreed)))
       (withCounters (record { accepted = e .first; sent = nextCounter sent })
       (associates Han (pending agreed (e .key) (e .challenge) (aarq .challenge)) (up Han (m .line))))
       m)
   pub third :
       outcome proof (outcome aarq (outcome link m .next) .next)
       ≡ (let number = nextCounter (nextCounter (m .line .han .counters .sent)) in
-      let keys = lentKeys (secretsOf proof) in
+      let keys = entranceKeys proof in
       said 0
       (apduFrame (headIn proof)
       (sealedEnvelope keys (m .line .title) 0xCF (nextCounter number) (provedText keys (m .line .title) (e .challenge) (e .invoke) number)))
@@ -245,7 +253,7 @@ pub record Asking (a : Lent) (l : Line) (tag counter : ℕ) (text : List ℕ) : 
   pub window : Accepted counter l
   pub small : counter < 256 ^ 4
   pub short : envelopeLength (length text) ≤ greatestApdu longestReceived
-  pub received : a .received ≡ requestFrame Han (sealedEnvelope (dedicatedKeys (a .ak) l) (l .han .peer .title) tag counter text)
+  pub received : a .received ≡ requestFrame Han (sealedEnvelope (requestKeys a l) (l .han .peer .title) tag counter text)
 
 -- it has the body's answer, sealed under the meter's counter plus one, which the line then holds beside the client's
 abbrev pub NextCounter : Type 0
@@ -289,7 +297,7 @@ pub record RowsRead (a : Lent) (m : Model) (t : Clock) (counter invoke : ℕ) : 
         next = record { line = advanced (accepted counter (m .line)); body = twice t m .body };
       }
   pub found :
-      opened (dedicatedKeys (a .ak) (m .line)) (m .line .title) 0xD4 (apduOf (outcome a (twice t m) .sent))
+      opened (requestKeys a (m .line)) (m .line .title) 0xD4 (apduOf (outcome a (twice t m) .sent))
       ≡ opens (nextCounter (m .line .han .counters .sent)) (getAnswer invoke (granted (rowsData (bothRows t m))))
 
 -- after two due ticks of the same clock H reads both rows, in an envelope, where they fit one

@@ -1,0 +1,71 @@
+-- Worked answers of a body, byte by byte: each kind of data that a meter sends, and the codes of a method that V names, which
+-- no frame reaches, since V is never let ask for one. proofs/WorkedAnswers shows that the definitions of specs/Objects give
+-- them all. Kinds are those of document 01: 01 array, 02 structure, 06 and 12 numbers of 32 and 16 bits, 09 octet string,
+-- 0A visible string, 0F integer, 16 enumeration. No other definition cites this table.
+use mathlib.Core.Bool.{Bool, true}
+use mathlib.Core.List.{List, [], _∷_, _++_}
+use Prim.Native.Nat.{ℕ}
+use Rattle.wire.specs.Reading.{sameBytes}
+use Rattle.model.specs.declared.Name.{Name}
+use Rattle.model.specs.declared.Clock.{Clock}
+use Rattle.model.specs.declared.Client.{Client}
+use Rattle.model.specs.declared.Client.the-variants.{Verification, Han}
+use Rattle.model.specs.declared.Register.{Register}
+use Rattle.model.specs.State.{Body}
+use Rattle.model.specs.Objects.{named, get, action, all, absent, Service, turned}
+
+-- 18 minutes and 7 seconds past one, on the first day of 2017
+abbrev pub workedClock : Clock
+workedClock =
+    record { bytes = 0x07 ∷ 0xE1 ∷ 0x01 ∷ 0x01 ∷ 0xFF ∷ 0x01 ∷ 0x12 ∷ 0x07 ∷ 0xFF ∷ 0x80 ∷ 0x00 ∷ 0x00 ∷ [] }
+
+-- 1.0.1.8.0.255, the one register and column: 16,909,060, scaler -1, in watt hours
+abbrev pub workedRegister : Register
+workedRegister = record { name = named 1 0 1 8 0 255; readable = true; scaler = 0xFF; unit = 0x1E; value = 0x01020304 }
+
+-- a meter named "TPC1070201000001" with that register, the record number 4996 and a row of it
+abbrev pub workedBody : Body
+workedBody =
+    record {
+      device =
+          0x54 ∷ 0x50 ∷ 0x43 ∷ 0x31 ∷ 0x30 ∷ 0x37 ∷ 0x30 ∷ 0x32 ∷ 0x30 ∷ 0x31 ∷ 0x30 ∷ 0x30 ∷ 0x30 ∷ 0x30 ∷ 0x30 ∷ 0x31 ∷ [];
+      clock = workedClock;
+      period = 900;
+      number = 4996;
+      store =
+          record {
+            registers = workedRegister ∷ [];
+            columns = named 1 0 1 8 0 255 ∷ [];
+            rows = record { number = 4996; clock = workedClock; cells = 0x01020304 ∷ [] } ∷ [];
+          };
+    }
+
+-- the answer to a request with the invoke byte C1 has these bytes
+abbrev pub answers : Client → ℕ → Name → Service → List ℕ → Bool
+answers c k n s bytes =
+    sameBytes (turned (record { client = c; invoke = 0xC1; selective = true; class = k; name = n; service = s }) workedBody .bytes) bytes
+
+-- H reads an attribute whole, and the data are these
+abbrev pub reads : ℕ → Name → ℕ → List ℕ → Bool
+reads k n a d = answers Han k n (get a all) (0xC4 ∷ 0x01 ∷ 0xC1 ∷ 0x00 ∷ d)
+
+unfoldable pub workedAnswers : List Bool
+workedAnswers =
+    -- an object's name; the clock, its time and its date; the device name
+    reads 8 (named 0 0 1 0 0 255) 1 (0x09 ∷ 0x06 ∷ 0x00 ∷ 0x00 ∷ 0x01 ∷ 0x00 ∷ 0x00 ∷ 0xFF ∷ [])
+    ∷ reads 8 (named 0 0 1 0 0 255) 2 (0x09 ∷ 0x0C ∷ workedClock .bytes)
+    ∷ reads 1 (named 1 0 0 9 1 255) 2 (0x09 ∷ 0x04 ∷ 0x01 ∷ 0x12 ∷ 0x07 ∷ 0xFF ∷ [])
+    ∷ reads 1 (named 1 0 0 9 2 255) 2 (0x09 ∷ 0x05 ∷ 0x07 ∷ 0xE1 ∷ 0x01 ∷ 0x01 ∷ 0xFF ∷ [])
+    ∷ reads 1 (named 0 0 42 0 0 255) 2 (0x0A ∷ 0x10 ∷ workedBody .device)
+    -- the record number, and its scaler and unit
+    ∷ reads 3 (named 0 0 96 15 3 255) 2 (0x12 ∷ 0x13 ∷ 0x84 ∷ [])
+    ∷ reads 3 (named 0 0 96 15 3 255) 3 (0x02 ∷ 0x02 ∷ 0x0F ∷ 0x00 ∷ 0x16 ∷ 0xFF ∷ [])
+    -- a register's value, and its scaler and unit
+    ∷ reads 3 (named 1 0 1 8 0 255) 2 (0x06 ∷ 0x01 ∷ 0x02 ∷ 0x03 ∷ 0x04 ∷ [])
+    ∷ reads 3 (named 1 0 1 8 0 255) 3 (0x02 ∷ 0x02 ∷ 0x0F ∷ 0xFF ∷ 0x16 ∷ 0x1E ∷ [])
+    -- the rows
+    ∷ reads 7 (named 0 0 21 0 6 255) 2
+    (0x01 ∷ 0x01 ∷ 0x02 ∷ 0x03 ∷ 0x12 ∷ 0x13 ∷ 0x84 ∷ 0x09 ∷ 0x0C ∷ workedClock .bytes ++ 0x06 ∷ 0x01 ∷ 0x02 ∷ 0x03 ∷ 0x04 ∷ [])
+    -- V's method 1 of the device name is not served
+    ∷ answers Verification 1 (named 0 0 42 0 0 255) (action 1 absent) (0xC7 ∷ 0x01 ∷ 0xC1 ∷ 0x03 ∷ 0x00 ∷ [])
+    ∷ []
