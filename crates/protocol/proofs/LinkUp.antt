@@ -1,4 +1,5 @@
--- A link-up lets an AARQ in, and is answered by UA: `LinkUpLetsIn`, `NewMeterLetsIn` and `LinkUpAnswered` of specs/Lazy, proved.
+-- A link-up lets an AARQ in, and is answered by UA; P5 holds V off: `LinkUpLetsIn`, `HeldOff`, `NewMeterLetsIn` and
+-- `LinkUpAnswered` of specs/Lazy, proved.
 -- Besides, what a frame with enough lent comes to on a sound meter, by its ruling, for the other statements.
 use mathlib.Core.Path.{_≡_, refl, sym, ap, _∙_}
 use mathlib.Core.Bool.{true, false}
@@ -39,11 +40,11 @@ use Rattle.acse.proofs.LaidLaws.{written}
 use Rattle.acse.proofs.AarqLaws.{plain-accepted, services-there}
 use Rattle.protocol.specs.declared.Secrets.{Secrets}
 use Rattle.protocol.specs.Clients.{associates}
-use Rattle.protocol.specs.Rulings.{none as noTest, ua, apdu, says, decision}
+use Rattle.protocol.specs.Rulings.{none as noTest, p5HoldsV, ua, dm, apdu, says, decision}
 use Rattle.protocol.specs.Decide.{heldByP5, linkUp, acceptedPlain, conversed, carried, secretsOf, ruled, decide, p2}
 use Rattle.protocol.specs.Examples.{linkUpFrame}
 use Rattle.protocol.specs.Outcomes.{outcome, headIn, said}
-use Rattle.protocol.specs.Lazy.{Enough, requestFrame, aarqOfV, LinksUp, up, LinkUpLetsIn, NewMeterLetsIn, Speaks, LinkUpAnswered}
+use Rattle.protocol.specs.Lazy.{Enough, requestFrame, aarqOfV, LinksUp, up, LinkUpLetsIn, HeldOff, NewMeterLetsIn, Speaks, LinkUpAnswered}
 use Rattle.protocol.proofs.Claim.{p2-stays-sound}
 
 -- By the ruling.
@@ -91,6 +92,12 @@ module _ (c : Client) (m : Model) (a : Lent) (s : sound m ≡ true) (p : heldByP
 
   pub up-sound : sound (withLine (up c (m .line)) m) ≡ true
   up-sound = ap (λ (o : Outcome). sound (o .next)) (sym up-outcome) ∙ p2-stays-sound (frameCall a) m s
+
+pub held-off : HeldOff
+unfolding ruled linkUp
+held-off m a s p enough e =
+    let off : ruled (m .line) a ≡ says p5HoldsV (dm (headIn a)) (m .line) = rw (e, p) in
+    outcome-ruled a m enough s ∙ ap (λ r. decided p2 (decision r) m) off
 
 -- The AARQ.
 

@@ -104,7 +104,17 @@ LinkUpLetsIn =
     → aarq .received ≡ requestFrame Verification (aarqOfV (m .line .verification .title) services size)
     → LetIn m link aarq services
 
--- and so on a new one, by the frame of marked example 2
+-- "from V while P5 holds V": the same link-up is answered by DM, and the meter is unchanged
+abbrev pub HeldOff : Type 0
+HeldOff =
+    (m : Model) (link : Lent)
+    → sound m ≡ true
+    → m .line .p5 ≡ true
+    → Enough link
+    → LinksUp Verification link
+    → outcome link m ≡ said 10 (dmFrame (headIn link)) (m .line) m
+
+-- and on a new one an AARQ is let in, by the frame of marked example 2
 abbrev pub NewMeterLetsIn : Type 0
 NewMeterLetsIn =
     (device title verification han : List ℕ) (link aarq : Lent) (services size : List ℕ)
