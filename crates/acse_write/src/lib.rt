@@ -83,14 +83,12 @@ fn put_outcome(
     requires { ⌜ at + 25 ≤ length (now out) ⌝ }
     ensures { λ r. ⌜ WroteArray 25 (now (out .entry)) at (now (out .exit)) r (outcome size client result diagnostic) ⌝ }
 {
-    let context = wire::put_all(out, at, &[0x61, size]);
-    let name = wire::put_all(out, context, b"\xA1\x09\x06\x07");
+    let name = wire::put_all(out, at, &[0x61, size, 0xA1, 9, 6, 7]);
     let results = put_name(out, name, &context_name(client));
-    let reason = wire::put_all(out, results, &[0xA2, 0x03, 0x02, 0x01, result]);
     wire::put_all(
         out,
-        reason,
-        &[0xA3, 0x05, 0xA1, 0x03, 0x02, 0x01, diagnostic],
+        results,
+        &[0xA2, 3, 2, 1, result, 0xA3, 5, 0xA1, 3, 2, 1, diagnostic],
     )
 }
 

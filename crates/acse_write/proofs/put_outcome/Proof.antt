@@ -1,4 +1,5 @@
 -- `acse_write::put_outcome` meets its contract: its writes join.
+use mathlib.Core.List.{append-assoc}
 use borrow.Author.Needs.{needs}
 use Rattle.acse.specs.Aare.{outcome}
 use Rattle.wire.proofs.WroteLaws.{sized, then-array}
@@ -8,12 +9,10 @@ use Rattle.acse_write.proofs.put_outcome.Tie as tie
 returns : tie.Need-returns
 unfolding outcome
 returns c =
-    let diagnostic = c .before .before in
-    let result = diagnostic .before .before .before .before .before in
-    let name = result .before .before .before .before .before in
+    let results = c .before .before in
+    let name = results .before .before .before .before .before in
     let context = name .before .before .before .before .before .before in
-    let tag = context .before .before .before .before .before in
-    then-array (then-array (then-array (then-array (sized (tag .put-all .ensures)) (sized (context .put-all2 .ensures))) (rw (name .before .before .context-name .ensures) at (name .put-name .ensures))) (sized (result .put-all3 .ensures))) (sized (diagnostic .put-all4 .ensures))
+    rw append-assoc (then-array (then-array (sized (context .put-all .ensures)) (rw (name .before .before .context-name .ensures) at (name .put-name .ensures))) (sized (results .put-all2 .ensures)))
 
 pub put-outcome-spec : {M : Type 1} → statement M
 put-outcome-spec =
@@ -21,11 +20,7 @@ put-outcome-spec =
     (tie.spec
     (λ c. search needs)
     (λ c κs. search needs)
-    (λ c. search needs)
     (λ c κs. search needs)
-    (λ c κs. search needs)
-    (λ c κs. search needs)
-    (λ c. search needs)
     (λ c κs. search needs)
     (λ c. search needs)
     (λ c κs. search needs)
