@@ -1,17 +1,15 @@
-// The messages that open an association: the AARQ read, the AARE written, with the initiate request and response inside
-// them. specs/ has their layouts. What is in an envelope belongs to the crate envelope: here stands where it begins.
+// The messages that open an association: what they have by client, and the AARQ read, with the initiate request inside it.
+// specs/ has their layouts, also those of the AARE and the initiate response, which the crate acse_write writes. What is in
+// an envelope belongs to the crate envelope: here stands where it begins.
 mod clients;
 mod read;
-mod write;
 
 pub use clients::agreed;
 pub use clients::ciphers;
+pub use clients::context_name;
+pub use clients::mechanism_name;
 pub use read::read_aarq;
 pub use read::read_request;
-pub use write::put_accepted_head;
-pub use write::put_accepted_plain;
-pub use write::put_initiate_response;
-pub use write::put_rejected;
 
 // What a received AARQ comes to.
 pub enum Aarq {

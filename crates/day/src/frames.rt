@@ -51,7 +51,7 @@ pub fn data(apdu: Bytes) -> Bytes {
         source: 0x03,
         control: 0x13,
     };
-    let count = hdlc::put_data(&mut out, head, end);
+    let count = hdlc_write::put_data(&mut out, head, end);
     Bytes { items: out, count }
 }
 

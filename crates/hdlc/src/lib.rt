@@ -1,18 +1,12 @@
-// HDLC frames of the P2 link (document 01, "The frame"): received ones read, replies written. Reading answers for every
-// byte slice; a reply's writer asks for room only. specs/ says what is read and written; proofs/ has the laws for callers.
+// HDLC frames of the P2 link (document 01, "The frame"): received ones read, an answer for every byte slice. specs/ says what
+// is read, and what a reply is, which the crate hdlc_write writes; proofs/ has the laws for callers.
 mod read;
 mod tests;
-mod write;
 
 use model::Client;
 pub use read::read_frame;
 pub use tests::number_of;
 pub use tests::place_of;
-pub use write::put_data;
-pub use write::put_dm;
-pub use write::put_frmr;
-pub use write::put_llc;
-pub use write::put_ua;
 
 // The tests of a received frame, in the order of document 01: eight of refusal 4, one of 5, one of 8, eight of 9.
 pub enum FrameTest {

@@ -91,6 +91,6 @@ pub fn over_length() {
         source: 0x03,
         control: 0x13,
     };
-    hdlc::put_data(&mut out, head, 777);
+    hdlc_write::put_data(&mut out, head, 777);
     show(b"769 bytes of information", &out);
 }

@@ -14,19 +14,19 @@ fn received(source: u8, control: u8) -> Head {
 
 fn ua(name: &[u8], source: u8, frame: &[u8]) {
     let mut out = [0xAAu8; 24];
-    let count = hdlc::put_ua(&mut out, received(source, 0x93));
+    let count = hdlc_write::put_ua(&mut out, received(source, 0x93));
     compare(name, count, &out, frame);
 }
 
 fn dm(name: &[u8], source: u8, frame: &[u8]) {
     let mut out = [0xAAu8; 24];
-    let count = hdlc::put_dm(&mut out, received(source, 0x53));
+    let count = hdlc_write::put_dm(&mut out, received(source, 0x53));
     compare(name, count, &out, frame);
 }
 
 fn frmr(name: &[u8], source: u8, control: u8, test: FrameTest, frame: &[u8]) {
     let mut out = [0xAAu8; 24];
-    let count = hdlc::put_frmr(&mut out, received(source, control), test);
+    let count = hdlc_write::put_frmr(&mut out, received(source, control), test);
     compare(name, count, &out, frame);
 }
 
@@ -35,9 +35,9 @@ fn data(name: &[u8], source: u8, apdu: &[u8], frame: &[u8]) {
         return;
     }
     let mut out = [0xAAu8; 24];
-    let start = hdlc::put_llc(&mut out);
+    let start = hdlc_write::put_llc(&mut out);
     let end = wire::put_all(&mut out, start, apdu);
-    let count = hdlc::put_data(&mut out, received(source, 0x13), end);
+    let count = hdlc_write::put_data(&mut out, received(source, 0x13), end);
     compare(name, count, &out, frame);
 }
 

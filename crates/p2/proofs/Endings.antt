@@ -25,7 +25,7 @@ use Rattle.wire.proofs.ReadingLaws.{fill-here}
 use Rattle.wire.proofs.WroteLaws.{past, there}
 use Rattle.hdlc.specs.declared.Head.{Head}
 use Rattle.hdlc.specs.Replies.{apduFrame, Sent}
-use Rattle.hdlc.proofs.ReplyLaws.{length-apdu}
+use Rattle.hdlc_write.proofs.ReplyLaws.{length-apdu}
 use Rattle.envelope.specs.Layout.{Keys, sealedEnvelope}
 use Rattle.envelope.proofs.CloseLaws.{envelope-size, length-envelope}
 use Rattle.answers.specs.declared.Answered.{Answered as BodyAnswer}

@@ -18,7 +18,7 @@ pub fn reject(line: LineState, head: Head, test: FrameTest, out: &mut [u8]) -> T
     requires { ⌜ replyRoom longestSent ≤ length (now out) ⌝ }
     ensures { λ r. ⌜ Tells (says (frame test) (frmr head test) (lineOf line)) line (now (out .entry)) (now (out .exit)) r ⌝ }
 {
-    let count = hdlc::put_frmr(out, head, test);
+    let count = hdlc_write::put_frmr(out, head, test);
     Told {
         refusal: hdlc::number_of(test),
         count,
@@ -31,7 +31,7 @@ pub fn refuse(line: LineState, head: Head, out: &mut [u8]) -> Told
     requires { ⌜ replyRoom longestSent ≤ length (now out) ⌝ }
     ensures { λ r. ⌜ ((t : Test) → refusalOf t ≡ 10 → Tells (says t (dm head) (lineOf line)) line (now (out .entry)) (now (out .exit)) r) ⌝ }
 {
-    let count = hdlc::put_dm(out, head);
+    let count = hdlc_write::put_dm(out, head);
     Told {
         refusal: 10,
         count,
@@ -57,7 +57,7 @@ pub fn link_up(
         return refuse(line, head, out);
     }
     let next = association::with_link(line, client, true);
-    let count = hdlc::put_ua(out, head);
+    let count = hdlc_write::put_ua(out, head);
     Told {
         refusal: 0,
         count,
@@ -74,7 +74,7 @@ pub fn link_down(line: LineState, client: Client, head: Head, out: &mut [u8]) ->
         return refuse(line, head, out);
     }
     let next = association::with_link(line, client, false);
-    let count = hdlc::put_ua(out, head);
+    let count = hdlc_write::put_ua(out, head);
     Told {
         refusal: 0,
         count,

@@ -13,7 +13,7 @@ use Rattle.model.specs.Limits.{envelopeLength}
 use Rattle.hdlc.specs.Tests.{replyLlc}
 use Rattle.hdlc.specs.Replies.{apduFrame, dataFrame, Sent}
 use Rattle.hdlc.specs.declared.Head.{Head}
-use Rattle.hdlc.proofs.ReplyLaws.{apdu-framed, length-apdu}
+use Rattle.hdlc_write.proofs.ReplyLaws.{apdu-framed, length-apdu}
 use Rattle.cosem.specs.Tags.{exceptionBytes}
 use Rattle.cosem.specs.declared.Exception.{Exception}
 use Rattle.cosem.specs.declared.Exception.the-variants.{ServiceNotAllowed, ServiceUnknown}

@@ -36,12 +36,12 @@ pub fn send_accepted_ciphered(
     requires { ⌜ replyRoom longestSent ≤ length (now out) ⌝ }
     ensures { λ r. ⌜ Sent (apduFrame head (cipheredAareHead client title challenge ++ sealedEnvelope (keysOf keys) title 0x28 counter (initiateResponse agreed))) (now (out .entry)) (now (out .exit)) r ⌝ }
 {
-    let at = hdlc::put_llc(out);
-    let start = acse::put_accepted_head(out, at, client, &title, &challenge);
+    let at = hdlc_write::put_llc(out);
+    let start = acse_write::put_accepted_head(out, at, client, &title, &challenge);
     let text = start + envelope::head_size(RESPONSE_SIZE);
-    acse::put_initiate_response(out, text, &agreed);
+    acse_write::put_initiate_response(out, text, &agreed);
     let end = envelope::close_envelope(out, start, keys, title, 0x28, counter, RESPONSE_SIZE);
-    hdlc::put_data(out, head, end)
+    hdlc_write::put_data(out, head, end)
 }
 
 // The answer to a right proof: the meter's own over this challenge of the client, under the counter `first`, in an envelope
@@ -115,7 +115,7 @@ fn close_and_send(
     requires { ⌜ (replyRoom longestSent ≤ length (now out)) × (n ≤ textRoom longestSent) ⌝ }
     ensures { λ r. ⌜ Sent (apduFrame head (sealedEnvelope (keysOf keys) title tag counter (take n (drop (11 + headSize n) (now (out .entry)))))) (now (out .entry)) (now (out .exit)) r ⌝ }
 {
-    let at = hdlc::put_llc(out);
+    let at = hdlc_write::put_llc(out);
     let end = envelope::close_envelope(out, at, keys, title, tag, counter, n);
-    hdlc::put_data(out, head, end)
+    hdlc_write::put_data(out, head, end)
 }

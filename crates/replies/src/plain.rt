@@ -15,9 +15,9 @@ pub fn send_exception(out: &mut [u8], head: Head, e: Exception) -> usize
     requires { ⌜ replyRoom longestSent ≤ length (now out) ⌝ }
     ensures { λ r. ⌜ Sent (apduFrame head (exceptionBytes e)) (now (out .entry)) (now (out .exit)) r ⌝ }
 {
-    let at = hdlc::put_llc(out);
+    let at = hdlc_write::put_llc(out);
     let end = cosem::put_exception(out, at, e);
-    hdlc::put_data(out, head, end)
+    hdlc_write::put_data(out, head, end)
 }
 
 // The answer to a release.
@@ -25,9 +25,9 @@ pub fn send_release(out: &mut [u8], head: Head) -> usize
     requires { ⌜ replyRoom longestSent ≤ length (now out) ⌝ }
     ensures { λ r. ⌜ Sent (apduFrame head releaseResponse) (now (out .entry)) (now (out .exit)) r ⌝ }
 {
-    let at = hdlc::put_llc(out);
+    let at = hdlc_write::put_llc(out);
     let end = cosem::put_release(out, at);
-    hdlc::put_data(out, head, end)
+    hdlc_write::put_data(out, head, end)
 }
 
 // The AARE of an AARQ that is not accepted.
@@ -35,9 +35,9 @@ pub fn send_rejected(out: &mut [u8], head: Head, client: Client) -> usize
     requires { ⌜ replyRoom longestSent ≤ length (now out) ⌝ }
     ensures { λ r. ⌜ Sent (apduFrame head (rejectedAare client)) (now (out .entry)) (now (out .exit)) r ⌝ }
 {
-    let at = hdlc::put_llc(out);
-    let end = acse::put_rejected(out, at, client);
-    hdlc::put_data(out, head, end)
+    let at = hdlc_write::put_llc(out);
+    let end = acse_write::put_rejected(out, at, client);
+    hdlc_write::put_data(out, head, end)
 }
 
 // The AARE that accepts a client that does not cipher.
@@ -51,9 +51,9 @@ pub fn send_accepted_plain(
     requires { ⌜ replyRoom longestSent ≤ length (now out) ⌝ }
     ensures { λ r. ⌜ Sent (apduFrame head (plainAare client title agreed)) (now (out .entry)) (now (out .exit)) r ⌝ }
 {
-    let at = hdlc::put_llc(out);
-    let end = acse::put_accepted_plain(out, at, client, &title, &agreed);
-    hdlc::put_data(out, head, end)
+    let at = hdlc_write::put_llc(out);
+    let end = acse_write::put_accepted_plain(out, at, client, &title, &agreed);
+    hdlc_write::put_data(out, head, end)
 }
 
 // The APDU of `n` bytes that stands in `out` at `APDU_AT`.
@@ -61,6 +61,6 @@ pub fn send_plain(out: &mut [u8], head: Head, n: usize) -> usize
     requires { ⌜ (replyRoom longestSent ≤ length (now out)) × (0 < n) × (n ≤ textRoom longestSent) ⌝ }
     ensures { λ r. ⌜ Sent (apduFrame head (take n (drop 11 (now (out .entry))))) (now (out .entry)) (now (out .exit)) r ⌝ }
 {
-    hdlc::put_llc(out);
-    hdlc::put_data(out, head, APDU_AT + n)
+    hdlc_write::put_llc(out);
+    hdlc_write::put_data(out, head, APDU_AT + n)
 }

@@ -135,7 +135,7 @@ fn request_h() {
 
 fn answers_v() {
     let mut got = [0u8; 128];
-    let n = acse::put_accepted_plain(
+    let n = acse_write::put_accepted_plain(
         &mut got,
         0,
         Client::Verification,
@@ -143,21 +143,21 @@ fn answers_v() {
         b"\x00\x00\x14",
     );
     compare(b"AARE to V", first(&got, n), &AARE_V);
-    let k = acse::put_rejected(&mut got, 0, Client::Verification);
+    let k = acse_write::put_rejected(&mut got, 0, Client::Verification);
     compare(b"AARE that rejects V", first(&got, k), &REJECTED_V);
 }
 
 fn answers_h() {
     let mut got = [0u8; 128];
-    let n = acse::put_accepted_head(&mut got, 0, Client::Han, &TITLE_METER, &CHALLENGE_METER);
+    let n = acse_write::put_accepted_head(&mut got, 0, Client::Han, &TITLE_METER, &CHALLENGE_METER);
     compare(
         b"AARE to H up to its envelope",
         first(&got, n),
         &AARE_H_HEAD,
     );
-    let k = acse::put_initiate_response(&mut got, 0, b"\x00\x00\x15");
+    let k = acse_write::put_initiate_response(&mut got, 0, b"\x00\x00\x15");
     compare(b"initiate response to H", first(&got, k), &RESPONSE_H);
-    let j = acse::put_rejected(&mut got, 0, Client::Han);
+    let j = acse_write::put_rejected(&mut got, 0, Client::Han);
     compare(b"AARE that rejects H", first(&got, j), &REJECTED_H);
 }
 

@@ -8,7 +8,7 @@ use Rattle.model.proofs.LimitFacts.{reply-room}
 use Rattle.wire.proofs.WroteLaws.{then}
 use Rattle.acse.specs.Initiate.{initiateResponse}
 use Rattle.envelope.proofs.CloseLaws.{envelope-size}
-use Rattle.hdlc.proofs.ReplyLaws.{apdu-framed}
+use Rattle.hdlc_write.proofs.ReplyLaws.{apdu-framed}
 use Rattle.envelope.specs.Layout.{keysOf}
 use Rattle.replies.proofs.SendLaws.{closed-around, closed-end, head-limits}
 use Rattle.replies.proofs.enclosed.send_accepted_ciphered.Statement.{statement}

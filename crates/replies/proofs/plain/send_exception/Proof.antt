@@ -1,7 +1,7 @@
 -- `replies::plain::send_exception` meets its contract: the APDU behind LLC, and the frame around it.
 use borrow.Author.Needs.{needs}
 use Rattle.model.proofs.LimitFacts.{reply-room}
-use Rattle.hdlc.proofs.ReplyLaws.{apdu-framed}
+use Rattle.hdlc_write.proofs.ReplyLaws.{apdu-framed}
 use Rattle.replies.proofs.SendLaws.{length-exception}
 use Rattle.replies.proofs.plain.send_exception.Statement.{statement}
 use Rattle.replies.proofs.plain.send_exception.Tie as tie

@@ -1,7 +1,7 @@
 -- `replies::plain::send_release` meets its contract: the APDU behind LLC, and the frame around it.
 use borrow.Author.Needs.{needs}
 use Rattle.model.proofs.LimitFacts.{reply-room}
-use Rattle.hdlc.proofs.ReplyLaws.{apdu-framed}
+use Rattle.hdlc_write.proofs.ReplyLaws.{apdu-framed}
 use Rattle.replies.proofs.plain.send_release.Statement.{statement}
 use Rattle.replies.proofs.plain.send_release.Tie as tie
 
