@@ -1,3 +1,1 @@
-pub mod Lengths
-pub mod RowLaws
 pub mod AnswerLaws

@@ -5,9 +5,7 @@ use Prim.Native.Nat.{ℕ, _+_, _≤_}
 use Rattle.wire.specs.Wrote.{Wrote}
 use Rattle.model.specs.Limits.{longestSent, textRoom}
 use Rattle.model.specs.Objects.{Turn}
-use Rattle.store.specs.declared.Rows.{Rows}
 use Rattle.body.specs.View.{bodyOf}
-use Rattle.results.specs.Results.{Even}
 use Rattle.answers.specs.declared.Answered.{Answered}
 
 -- its number, its bytes from place at on and nothing else of the buffer, no longer than a text may be, and its body
@@ -16,7 +14,3 @@ pub record Turns (t : Turn) (l : List ℕ) (at : ℕ) (m : List ℕ) (r : Answer
   pub wrote : Wrote l at m (r .next) (t .bytes)
   pub short : r .next ≤ at + textRoom longestSent
   pub body : bodyOf (r .body) ≡ t .body
-
--- rows as a sound body has them, by some number of columns
-abbrev pub EvenRows : Rows → Type 0
-EvenRows s = (columns : ℕ) × Even s columns

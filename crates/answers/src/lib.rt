@@ -1,6 +1,6 @@
 // The body's answer to an opened request, written into the reply buffer as a plain APDU, and the body afterwards. A writer
 // requires room for its bytes; what is to be written, and how long it is, was decided before the first byte.
-use crate::data::put_data;
+use crate::granted::put_data;
 use body::BodyState;
 use cosem::Asked;
 use cosem::Wanted;
@@ -24,8 +24,7 @@ ghost use Rattle.objects.specs.Meanings.{foundAs, requestAs};
 ghost use Rattle.objects.specs.Picks.{parameterIn, selectionIn};
 ghost use Rattle.answers.specs.Promise.{Turns};
 
-mod data;
-mod rows;
+mod granted;
 
 // The number of the refusal, or 0, the place after the answer, and the body.
 pub struct Answered {

@@ -32,9 +32,11 @@ use Rattle.p2.proofs.Endings.{filled-whole}
 use Rattle.image.specs.declared.ImageRead.{ImageRead}
 use Rattle.image.specs.declared.Status.{Status}
 use Rattle.image.specs.declared.Status.the-variants.{Whole, WrongLength, WrongVersion, NoImage}
-use Rattle.image.specs.declared.Written.{Written}
-use Rattle.image.specs.Image.{imageSize, imageOf, meterOf, meterIn, meterBy, statusOf, readImage, Writes}
-use Rattle.image.proofs.ImageLaws.{passed, in-meter, done}
+use Rattle.image.specs.Image.{imageSize, imageOf, meterOf, meterIn, meterBy, statusOf, readImage}
+use Rattle.image.proofs.ImageLaws.{passed, in-meter}
+use Rattle.image_write.specs.declared.Written.{Written}
+use Rattle.image_write.specs.Writing.{Writes}
+use Rattle.image_write.proofs.WritesLaws.{done}
 use Rattle.capi.specs.Refusals.{ownRefusal, newRefusal, newSized, argumentRefusal, sized}
 use Rattle.capi.specs.Promises.{imageFor, after, Stores, NewCalled, Owns, OwnerCalled, Ends, Receives, FrameCalled, FrameEnds}
 

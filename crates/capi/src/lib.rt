@@ -60,7 +60,7 @@ pub extern "C" fn birlimock_new(
         lent::eight_of(v_title),
         lent::eight_of(h_title),
     );
-    image::write_image(meter.cleared(), state);
+    image_write::write_image(meter.cleared(), state);
     0
 }
 
@@ -199,7 +199,7 @@ fn end(changed: Changed, state: &mut [u8]) -> u8
         return n;
     }
     let meter = changed.meter;
-    image::write_image(meter.cleared(), state);
+    image_write::write_image(meter.cleared(), state);
     0
 }
 
@@ -212,6 +212,6 @@ fn frame_end(received: Received, state: &mut [u8]) -> u8
         return n;
     }
     let meter = received.meter;
-    image::write_image(meter.cleared(), state);
+    image_write::write_image(meter.cleared(), state);
     n
 }

@@ -8,17 +8,13 @@ use lib.Dec.{eqb}
 use lib.ListN.{length, drop, getD, replicate, length-drop}
 use lib.Seq.{take-all}
 use borrow.Author.Tests.{eq-eqb, ne-eqb, eqb-true}
-use Rattle.wire.specs.Wrote.{Wrote}
-use Rattle.wire.proofs.WroteLaws.{then, full}
 use Rattle.meter.specs.declared.Meter.{Meter}
 use Rattle.image.specs.declared.ImageRead.{ImageRead}
 use Rattle.image.specs.declared.Status.{Status}
 use Rattle.image.specs.declared.Status.the-variants.{Whole, WrongLength, WrongVersion, NoImage}
-use Rattle.image.specs.declared.Written.{Written}
-use Rattle.image.specs.declared.Written.the-variants.{Done, WrongBuffer}
-use Rattle.image.specs.Codec.{Put, Got}
+use Rattle.image.specs.Codec.{Got}
 use Rattle.image.specs.Layout.{meterPart}
-use Rattle.image.specs.Image.{version, imageSize, imageOf, meterOf, meterIn, blankMeter, statusOf, meterBy, readImage, Writes, ReadBack, WrittenBack}
+use Rattle.image.specs.Image.{version, imageSize, imageOf, meterOf, meterIn, blankMeter, statusOf, meterBy, readImage, ReadBack, WrittenBack}
 use Rattle.image.proofs.CodecLaws.{rest-bytes}
 use Rattle.image.proofs.Sizes.{sizes}
 use Rattle.image.proofs.LayoutLaws.{meter-lawful}
@@ -119,35 +115,3 @@ written-back s k e =
     front : (s : List ℕ) → 1 ≤ length s → getD s 0 0 ∷ drop 1 s ≡ s
     front [] h = absurd (omega arith)
     front (x ∷ xs) h = refl
-
--- Writing: a buffer of another length is left as it was; in one of its size there is the image.
-
-pub not-written : (m : Meter) (l : List ℕ) → (length l ≡ imageSize → ⊥) → Writes m l l WrongBuffer
-not-written m l h =
-    record {
-      answer = rw (ne-eqb (length l) imageSize h);
-      holds = rw (ne-eqb (length l) imageSize h);
-      back = λ q. absurd (let z : _≡_ {A = ℕ} 0 1 = cc in omega arith);
-    }
-
-pub image-written : (m : Meter) {l p e : List ℕ} {k next : ℕ} → length l ≡ imageSize → Wrote l 0 p k (version ∷ []) → Put meterPart m p k e next → Writes m l e Done
-unfolding imageOf
-image-written m {l} {p} {e} h u w =
-    let i : e ≡ imageOf m = full (then u (w .wrote)) (omega (arith, length-image m (w .holds))) in
-    record {
-      answer = rw (eq-eqb (length l) imageSize h);
-      holds = rw (eq-eqb (length l) imageSize h) i;
-      back = λ q. ap readImage i ∙ image-back m (w .holds);
-    }
-
--- what the caller learns, by the length of its buffer
-module _ {m : Meter} {l e : List ℕ} {r : Written} (w : Writes m l e r) where
-  pub done : length l ≡ imageSize → (r ≡ Done) × (e ≡ imageOf m)
-  done h =
-      let t = eq-eqb (length l) imageSize h in
-      (w .answer ∙ rw t, w .holds ∙ rw t)
-
-  pub kept : (length l ≡ imageSize → ⊥) → (r ≡ WrongBuffer) × (e ≡ l)
-  kept h =
-      let t = ne-eqb (length l) imageSize h in
-      (w .answer ∙ rw t, w .holds ∙ rw t)

@@ -8,7 +8,6 @@ use Prim.Native.Nat.{ℕ, zero, suc, _+_, _*_, _^_, _<_}
 use lib.Dec.{eqb, ltb}
 use lib.ListN.{length, take, drop, getD}
 use Rattle.wire.specs.Numbers.{highFirst, numberHigh}
-use Rattle.wire.specs.Wrote.{Wrote}
 use Rattle.line.specs.declared.Phase.{Phase}
 use Rattle.line.specs.declared.Phase.the-variants.{Idle, Pending, Associated}
 
@@ -141,12 +140,6 @@ many n c =
       taken = λ s. allTaken c n s;
       Holds = λ xs. (length xs ≡ n) × Each (c .Holds) xs;
     }
-
--- a part was written from a place on into a buffer that held l, which holds m now; next is the place after it
-pub record Put {A : Type 0} (c : Codec A) (x : A) (l : List ℕ) (at : ℕ) (m : List ℕ) (next : ℕ) : Type 0 where
-  pub wrote : Wrote l at m next (c .bytes x)
-  pub sized : length (c .bytes x) ≡ c .size
-  pub holds : c .Holds x
 
 -- a part was read at a place
 pub record Got {A : Type 0} (c : Codec A) (s : List ℕ) (at : ℕ) (x : A) : Type 0 where

@@ -1,5 +1,5 @@
--- The image of a meter: a version byte, then the meter by its layout; and what writing and reading one promise, for every
--- buffer and every byte string.
+-- The image of a meter: a version byte, then the meter by its layout; and what reading comes to, for every byte string. What
+-- writing promises is image_write's.
 use mathlib.Core.Path.{_≡_}
 use mathlib.Core.Bool.{true, cond}
 use mathlib.Core.List.{List, _∷_}
@@ -8,8 +8,6 @@ use lib.Dec.{eqb}
 use lib.ListN.{length, drop, getD, replicate}
 use Rattle.meter.specs.declared.Meter.{Meter}
 use Rattle.meter.specs.Unsound.{holdable}
-use Rattle.image.specs.declared.Written.{Written}
-use Rattle.image.specs.declared.Written.the-variants.{Done, WrongBuffer}
 use Rattle.image.specs.declared.Status.{Status}
 use Rattle.image.specs.declared.Status.the-variants.{Whole, WrongLength, WrongVersion, NoImage}
 use Rattle.image.specs.declared.ImageRead.{ImageRead}
@@ -53,14 +51,6 @@ meterBy NoImage s = blankMeter
 
 abbrev pub readImage : List ℕ → ImageRead
 readImage s = record { status = statusOf s; meter = meterBy (statusOf s) s }
-
--- Writing: into a buffer that held l and holds e then.
-
--- the image, where the buffer has its size; else the buffer as it was. What was written reads as this very meter.
-pub record Writes (m : Meter) (l e : List ℕ) (r : Written) : Type 0 where
-  pub answer : r ≡ cond (eqb (length l) imageSize) Done WrongBuffer
-  pub holds : e ≡ cond (eqb (length l) imageSize) (imageOf m) l
-  pub back : r ≡ Done → readImage e ≡ record { status = Whole; meter = m }
 
 -- What is proved of images.
 

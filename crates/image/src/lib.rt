@@ -1,10 +1,9 @@
-// The image of a meter: every field of the struct in a fixed byte layout, behind a version byte. Whatever a meter holds is
-// written, sound or not; what is read is refused by its length, its version, or a byte that no meter has. docs/IMAGE.md has
-// the places.
+// The image of a meter: every field of the struct in a fixed byte layout, behind a version byte. What is read is refused by
+// its length, its version, or a byte that no meter has; a meter that is read need not be sound. docs/IMAGE.md has the places;
+// image_write writes an image.
 mod check;
 mod lists;
 mod read;
-mod write;
 
 pub use lists::are_names;
 pub use lists::are_registers;
@@ -15,19 +14,12 @@ pub use read::CLOCK;
 pub use read::NAME;
 pub use read::REGISTER;
 ghost use mathlib.Core.Path.{_≡_};
-ghost use Rattle.image.specs.Image.{blankMeter, meterIn, readImage, statusOf, Writes};
+ghost use Rattle.image.specs.Image.{blankMeter, meterIn, readImage, statusOf};
 
 // How many bytes an image has, and the first of them.
 pub const SIZE: usize = 1728;
 
 pub const VERSION: u8 = 1;
-
-// What writing answers.
-pub enum Written {
-    Done,
-    // the buffer has another length than an image, and nothing was written
-    WrongBuffer,
-}
 
 // What reading answers beside the meter, by the first test that the bytes fail.
 pub enum Status {
@@ -42,18 +34,6 @@ pub enum Status {
 pub struct ImageRead {
     pub status: Status,
     pub meter: Meter,
-}
-
-// Writes the image of a meter into a buffer of its size.
-pub fn write_image(meter: Meter, out: &mut [u8]) -> Written
-    ensures { λ r. ⌜ Writes meter (now (out .entry)) (now (out .exit)) r ⌝ }
-{
-    if out.len() != SIZE {
-        return Written::WrongBuffer;
-    }
-    let a = wire::put(out, 0, VERSION);
-    write::put_meter(out, a, meter);
-    Written::Done
 }
 
 // Reads a meter from its image.

@@ -210,7 +210,7 @@ fn dump(meter: Meter, line: &[u8], from: Cursor, reply: &mut [u8]) -> Done {
     if !end.good {
         return unread(meter, end);
     }
-    image::write_image(meter.cleared(), start_of(reply, image::SIZE));
+    image_write::write_image(meter.cleared(), start_of(reply, image::SIZE));
     Done {
         meter,
         column: 0,

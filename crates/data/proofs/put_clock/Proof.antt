@@ -1,0 +1,13 @@
+-- `data::put_clock` meets its contract.
+use mathlib.Core.Path.{ap}
+use Prim.Native.Nat.{ℕ, suc}
+use Rattle.wire.proofs.WroteLaws.{then}
+use borrow.Author.Needs.{needs}
+use Rattle.data.proofs.put_clock.Statement.{statement}
+use Rattle.data.proofs.put_clock.Tie as tie
+
+returns : tie.Need-returns
+returns c = let w = c .before .before .put-12 .ensures in record { wrote = then (c .before .before .before .before .before .before .before .before .put-all .ensures) (w .wrote); sized = ap (λ (j : ℕ). suc (suc j)) (w .sized) }
+
+pub put-clock-spec : {M : Type 1} → statement M
+put-clock-spec = tie.close (tie.spec (λ c. search needs) (λ c κs. search needs) (λ c κs. search needs) (λ c. search needs) returns)

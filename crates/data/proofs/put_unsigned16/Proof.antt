@@ -1,0 +1,11 @@
+-- `data::put_unsigned16` meets its contract.
+use Rattle.wire.proofs.WroteLaws.{then}
+use borrow.Author.Needs.{needs}
+use Rattle.data.proofs.put_unsigned16.Statement.{statement}
+use Rattle.data.proofs.put_unsigned16.Tie as tie
+
+returns : tie.Need-returns
+returns c = then (c .before .before .before .before .before .before .put .ensures) (c .before .before .put-u16 .ensures)
+
+pub put-unsigned16-spec : {M : Type 1} → statement M
+put-unsigned16-spec = tie.close (tie.spec (λ c κs. search needs) (λ c κs. search needs) (λ c. search needs) returns)

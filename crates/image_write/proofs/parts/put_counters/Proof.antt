@@ -1,0 +1,15 @@
+-- `image_write::parts::put_counters` meets its contract: its parts in a row.
+use native.Mathlib.Omega.{arith}
+use Rattle.image.specs.Layout.{countersPart}
+use Rattle.image.proofs.Sizes.{sizes}
+use Rattle.image_write.proofs.PutLaws.{put-both, put-fields}
+use borrow.Author.Needs.{needs}
+use Rattle.image_write.proofs.parts.put_counters.Statement.{statement}
+use Rattle.image_write.proofs.parts.put_counters.Tie as tie
+
+returns : tie.Need-returns
+unfolding countersPart
+returns c = put-fields _ _ (put-both (c .before .before .before .before .before .before .put-four .ensures) (c .before .before .put-four2 .ensures))
+
+pub put-counters-spec : {M : Type 1} → statement M
+put-counters-spec = tie.close (tie.spec (λ c κs. let z = sizes in omega arith) (λ c κs. let z = sizes in omega arith) (λ c. search needs) returns)

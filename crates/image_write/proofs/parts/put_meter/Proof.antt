@@ -1,0 +1,15 @@
+-- `image_write::parts::put_meter` meets its contract: its parts in a row.
+use native.Mathlib.Omega.{arith}
+use Rattle.image.specs.Layout.{meterPart}
+use Rattle.image.proofs.Sizes.{sizes}
+use Rattle.image_write.proofs.PutLaws.{put-both, put-fields}
+use borrow.Author.Needs.{needs}
+use Rattle.image_write.proofs.parts.put_meter.Statement.{statement}
+use Rattle.image_write.proofs.parts.put_meter.Tie as tie
+
+returns : tie.Need-returns
+unfolding meterPart
+returns c = put-fields _ _ (put-both (c .before .before .before .before .before .before .before .put-line .ensures) (c .before .before .put-body .ensures))
+
+pub put-meter-spec : {M : Type 1} → statement M
+put-meter-spec = tie.close (tie.spec (λ c κs. let z = sizes in omega arith) (λ c κs. let z = sizes in omega arith) (λ c. search needs) returns)
