@@ -1,0 +1,3 @@
+//! The cases of the script program: what a client puts on the plug.
+
+pub mod client;
