@@ -1,8 +1,8 @@
 //! One call on the library and on the second meter, and everything that the two must have in common afterwards.
 
-use crate::hexadecimal::hex;
 use crate::library::{self, Answer};
 use crate::random::Random;
+use cases::hexadecimal::hex;
 use reference::image;
 use reference::library::{Call, State};
 use reference::receive::Outcome;
@@ -11,6 +11,7 @@ use reference::receive::Outcome;
 const CHANGING: [u8; 4] = [0, 7, 12, 13];
 
 /// The state buffer of the library and the state of the second meter.
+#[derive(Clone)]
 pub struct Bench {
     pub image: Vec<u8>,
     pub state: State,

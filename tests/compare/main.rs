@@ -1,41 +1,59 @@
-//! Compares the static library with the second meter, call by call: compare CALLS SEED FOLDER.
-//! Prints what the run met; the folder gets replies for other programs to read. Exit status 1 where something differs, or
-//! where a number that can be answered never was.
+//! Compares the static library with the second meter, call by call. Prints what the run met; exit status 1 where something
+//! differs.
+//!
+//! compare CALLS SEED FOLDER makes so many calls at random; the folder gets replies for other programs to read, and a number
+//! that can be answered and never was is a difference, too. compare --replay INPUT OUTPUT goes through the script program's
+//! cases.
 
 mod bench;
+mod bits;
 mod damage;
-mod hexadecimal;
 mod library;
 mod opening;
 mod owner;
 mod player;
 mod random;
+mod replay;
 mod run;
 mod samples;
 mod states;
 mod statistics;
 mod values;
 
+use std::fs;
 use std::path::Path;
 use std::process::ExitCode;
 use std::time::Instant;
 
 fn main() -> ExitCode {
     let words: Vec<String> = std::env::args().skip(1).collect();
-    let [calls, seed, folder] = &words[..] else { return usage() };
-    let (Ok(calls), Ok(seed)) = (calls.parse(), seed.parse()) else { return usage() };
-    match compared(calls, seed, Path::new(folder)) {
+    let done = match &words[..] {
+        [word, input, output] if word == "--replay" => replayed(input, output),
+        [calls, seed, folder] => {
+            let (Ok(calls), Ok(number)) = (calls.parse(), seed.parse()) else { return usage() };
+            compared(calls, number, Path::new(folder)).map_err(|told| format!("{told}\nseed: {seed}"))
+        }
+        _ => return usage(),
+    };
+    match done {
         Ok(()) => ExitCode::SUCCESS,
         Err(told) => {
-            println!("{told}\nseed: {seed}");
+            println!("{told}");
             ExitCode::FAILURE
         }
     }
 }
 
 fn usage() -> ExitCode {
-    println!("usage: compare CALLS SEED FOLDER");
+    println!("usage: compare CALLS SEED FOLDER, or compare --replay INPUT OUTPUT");
     ExitCode::from(2)
+}
+
+fn replayed(input: &str, output: &str) -> Result<(), String> {
+    let read = |path: &str| fs::read(path).map_err(|error| format!("{path}: {error}"));
+    let output = String::from_utf8(read(output)?).map_err(|error| format!("{output}: {error}"))?;
+    replay::replayed(&read(input)?, &output)?.print();
+    Ok(())
 }
 
 fn compared(calls: usize, seed: u64, folder: &Path) -> Result<(), String> {

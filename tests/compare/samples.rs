@@ -1,6 +1,6 @@
 //! Replies of the library that other programs read: AAREs as files, envelopes with their keys as lines of one file.
 
-use crate::hexadecimal::hex;
+use cases::hexadecimal::hex;
 use reference::library::Call;
 use reference::meter::Meter;
 use reference::receive::Outcome;

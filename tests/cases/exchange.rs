@@ -1,0 +1,101 @@
+//! What the script program is given and what it has to answer, from the source: each call as its lines, each line with the
+//! answer of the second meter.
+
+use crate::calls::{self, Letters};
+use crate::hexadecimal::hex;
+use crate::script::{self, Program};
+use crate::source::{self, Entry, Expected, Step};
+use reference::receive::Outcome;
+
+const HEAD: &str = "# Made by tests/cases/make from tests/cases/script: change that source, and make this file again.";
+
+/// Standard input and standard output of the script program, as far as they are made.
+pub struct Exchange {
+    program: Program,
+    letters: Letters,
+    input: Vec<Vec<u8>>,
+    output: Vec<String>,
+}
+
+impl Exchange {
+    pub fn begun() -> Exchange {
+        Exchange { program: Program::started(), letters: Letters::Large, input: vec![HEAD.into()], output: vec![] }
+    }
+
+    /// Adds what one line of the source says.
+    pub fn add(&mut self, line: &str) -> Result<(), String> {
+        match source::read(line)? {
+            Entry::Blank => {}
+            Entry::Heading(heading) => self.input.extend([vec![], format!("# == {heading}").into()]),
+            Entry::Step(step) => self.step(&step)?,
+        }
+        Ok(())
+    }
+
+    /// A call in words that has no name has its words for one.
+    fn step(&mut self, &Step { name, call, expected }: &Step) -> Result<(), String> {
+        match call {
+            "" => self.comment(name, None),
+            "letters large" => self.letters = Letters::Large,
+            "letters small" => self.letters = Letters::Small,
+            _ if call.contains('"') => self.quoted(name, source::quoted(call)?, expected)?,
+            _ if calls::is_line(call) => self.answered(name, vec![call.into()], expected)?,
+            _ => {
+                let lines = calls::lines(call, self.program.meter(), self.letters)?;
+                self.answered(name.or(Some(call)), lines, expected)?;
+            }
+        }
+        Ok(())
+    }
+
+    /// A name as a comment; a sealed answer stands behind it in its plain form.
+    fn comment(&mut self, name: Option<&str>, answer: Option<&Outcome>) {
+        let sealed = answer.and_then(|answer| answer.sealed.as_ref());
+        let plain = sealed.map(|sealed| format!(" > {}", hex(&sealed.plain))).unwrap_or_default();
+        self.input.extend(name.map(|name| format!("# {name}{plain}").into()));
+    }
+
+    /// Lines that can be read. The last one answers the number that is expected, those before it 0.
+    fn answered(&mut self, name: Option<&str>, lines: Vec<String>, expected: Expected) -> Result<(), String> {
+        let Expected::Number(expected) = expected else {
+            return Err("a line that is not a call stands in quotes".into());
+        };
+        let mut answers = vec![];
+        for line in &lines {
+            let read = script::read(line).ok_or(format!("this line cannot be read: {line}"))?;
+            let answer = self.program.answer(&read);
+            let due = if answers.len() + 1 == lines.len() { expected } else { 0 };
+            if answer.number != due {
+                return Err(format!("the second meter answers {}, not {due}", answer.number));
+            }
+            answers.push(answer);
+        }
+        self.comment(name, answers.last());
+        self.input.extend(lines.into_iter().map(String::into_bytes));
+        self.output.extend(answers.iter().map(|answer| script::written(answer.number, &answer.reply)));
+        Ok(())
+    }
+
+    /// A line as it stands; where it is no call, with the answer that the source brings along.
+    fn quoted(&mut self, name: Option<&str>, line: Vec<u8>, expected: Expected) -> Result<(), String> {
+        let text = std::str::from_utf8(&line).ok();
+        match expected {
+            Expected::Number(_) => {
+                let text = text.ok_or("this line is no text")?.into();
+                return self.answered(name, vec![text], expected);
+            }
+            Expected::Column(_) if text.and_then(script::read).is_some() => return Err("this line can be read".into()),
+            Expected::Column(column) => self.output.push(format!("? {column}")),
+            Expected::Nothing if script::is_silent(&line) => {}
+            Expected::Nothing => return Err("a line that answers nothing is empty or begins with #".into()),
+        }
+        self.comment(name, None);
+        self.input.push(line);
+        Ok(())
+    }
+
+    /// Both files whole. The last line of the input has no line feed: it is the one that the end cuts off.
+    pub fn files(self) -> [Vec<u8>; 2] {
+        [self.input.join(&b'\n'), (self.output.join("\n") + "\n").into()]
+    }
+}

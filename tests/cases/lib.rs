@@ -1,0 +1,10 @@
+//! Cases for the programs, as data: the source read, clients' requests made and sealed, answers by the second meter.
+
+pub mod calls;
+pub mod client;
+pub mod exchange;
+pub mod hexadecimal;
+pub mod plug;
+pub mod script;
+pub mod source;
+pub mod words;

@@ -1,0 +1,93 @@
+//! Makes the files that come from tests/cases, or with --check tells where the files that stand are others.
+
+use cases::exchange::Exchange;
+use std::fs;
+use std::process::ExitCode;
+
+/// A file as it should be.
+struct Made {
+    path: &'static str,
+    content: Vec<u8>,
+}
+
+fn main() -> ExitCode {
+    let words: Vec<String> = std::env::args().skip(1).collect();
+    let done = match &words[..] {
+        [] => made().and_then(|files| written(&files)),
+        [word] if word == "--check" => made().and_then(|files| checked(&files)),
+        _ => Err("usage: tests/cases/make [--check]".into()),
+    };
+    match done {
+        Ok(told) => println!("cases: {told}"),
+        Err(told) => {
+            println!("cases: {told}");
+            return ExitCode::FAILURE;
+        }
+    }
+    ExitCode::SUCCESS
+}
+
+/// Every file that is made.
+fn made() -> Result<Vec<Made>, String> {
+    Ok(script()?.into())
+}
+
+/// The files of the script program, from all files of its source in the order of their names.
+fn script() -> Result<[Made; 2], String> {
+    let mut exchange = Exchange::begun();
+    for path in sources("tests/cases/script")? {
+        let text = fs::read_to_string(&path).map_err(|error| format!("{path}: {error}"))?;
+        for (number, line) in text.lines().enumerate() {
+            exchange.add(line).map_err(|error| format!("{path}:{}: {error}\n    {line}", number + 1))?;
+        }
+    }
+    let [input, output] = exchange.files();
+    Ok([Made { path: "crates/script/stdin", content: input }, Made { path: "crates/script/stdout", content: output }])
+}
+
+fn sources(folder: &str) -> Result<Vec<String>, String> {
+    let entries = fs::read_dir(folder).map_err(|error| format!("{folder}: {error}"))?;
+    let mut paths: Vec<String> = entries.flatten().map(|entry| entry.path().display().to_string()).collect();
+    paths.retain(|path| path.ends_with(".txt"));
+    paths.sort();
+    Ok(paths)
+}
+
+fn written(files: &[Made]) -> Result<String, String> {
+    for file in files {
+        fs::write(file.path, &file.content).map_err(|error| format!("{}: {error}", file.path))?;
+    }
+    Ok(told(files, "made"))
+}
+
+fn checked(files: &[Made]) -> Result<String, String> {
+    let differences: Vec<String> = files.iter().filter_map(difference).collect();
+    match differences[..] {
+        [] => Ok(told(files, "as the source has it")),
+        _ => Err(differences.join("\n") + "\nrun tests/cases/make"),
+    }
+}
+
+fn told(files: &[Made], what: &str) -> String {
+    let files: Vec<String> =
+        files.iter().map(|file| format!("{} ({} lines)", file.path, lines(&file.content).len())).collect();
+    format!("{} {what}", files.join(", "))
+}
+
+fn lines(content: &[u8]) -> Vec<&[u8]> {
+    content.split(|&byte| byte == b'\n').collect()
+}
+
+/// The first line in which the file that stands is another.
+fn difference(file: &Made) -> Option<String> {
+    let standing = match fs::read(file.path) {
+        Err(error) => return Some(format!("{}: {error}", file.path)),
+        Ok(standing) if standing == file.content => return None,
+        Ok(standing) => standing,
+    };
+    let (standing, made) = (lines(&standing), lines(&file.content));
+    let same = standing.iter().zip(&made).take_while(|(one, other)| one == other).count();
+    let shown =
+        |lines: &[&[u8]]| lines.get(same).map_or("the end".into(), |line| String::from_utf8_lossy(line).into_owned());
+    Some(format!("{}:{}: stands {}\n    should be {}", file.path, same + 1, shown(&standing), shown(&made)))
+}
