@@ -84,10 +84,12 @@ impl Exchange {
                 let text = text.ok_or("this line is no text")?.into();
                 return self.answered(name, vec![text], expected);
             }
-            Expected::Column(_) if text.and_then(script::read).is_some() => return Err("this line can be read".into()),
-            Expected::Column(column) => self.output.push(format!("? {column}")),
+            _ if line.contains(&b'\n') => return Err("a line has no line feed in it".into()),
             Expected::Nothing if script::is_silent(&line) => {}
             Expected::Nothing => return Err("a line that answers nothing is empty or begins with #".into()),
+            Expected::Column(_) if script::is_silent(&line) => return Err("this line answers nothing".into()),
+            Expected::Column(_) if text.and_then(script::read).is_some() => return Err("this line can be read".into()),
+            Expected::Column(column) => self.output.push(format!("? {column}")),
         }
         self.comment(name, None);
         self.input.push(line);

@@ -69,8 +69,9 @@ fn checked(files: &[Made]) -> Result<String, String> {
 }
 
 fn told(files: &[Made], what: &str) -> String {
+    let count = |content: &[u8]| content.split_inclusive(|&byte| byte == b'\n').count();
     let files: Vec<String> =
-        files.iter().map(|file| format!("{} ({} lines)", file.path, lines(&file.content).len())).collect();
+        files.iter().map(|file| format!("{} ({} lines)", file.path, count(&file.content))).collect();
     format!("{} {what}", files.join(", "))
 }
 

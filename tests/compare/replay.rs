@@ -4,10 +4,9 @@
 use crate::bench::Bench;
 use crate::bits;
 use crate::random::Random;
-use cases::script::{self, Line};
+use cases::script::{self, Line, Program};
 use reference::image;
 use reference::library::{Call, State};
-use reference::meter::Meter;
 use std::collections::BTreeMap;
 
 /// What reply rooms hold and where buffers begin comes from this seed.
@@ -27,10 +26,9 @@ pub struct Replay {
 
 /// Replays the input of the script program, of which the output is known; an error tells of the first difference.
 pub fn replayed(input: &[u8], output: &str) -> Result<Replay, String> {
-    let zeros = Meter::new([0; 16], [0; 8], [0; 8], [0; 8]);
     let mut replay = Replay {
         random: Random::new(SEED),
-        bench: Bench::new(image::write(&zeros, &[0; image::SIZE])),
+        bench: Bench::new(image::write(Program::started().meter(), &[0; image::SIZE])),
         name: String::new(),
         lines: 0,
         unread: 0,
@@ -47,7 +45,10 @@ pub fn replayed(input: &[u8], output: &str) -> Result<Replay, String> {
         let compared = replay.line(line, answer);
         compared.map_err(|told| format!("{told}\nline {} of the cases, {}", number + 1, replay.name))?;
     }
-    Ok(replay)
+    match answers.next() {
+        None => Ok(replay),
+        Some(_) => Err("there are more answers than lines".into()),
+    }
 }
 
 impl Replay {
@@ -89,6 +90,7 @@ impl Replay {
         Ok(script::written(number, &[]))
     }
 
+    /// The image of the meter in the library's state buffer.
     fn dumped(&self) -> String {
         let state = State::of(&self.bench.image);
         let image = state.meter().map(|meter| image::write(meter, &[0; image::SIZE]));
