@@ -4,7 +4,7 @@ ghost use lib.ListN.{length};
 
 // The first `n` bytes, or all where there are fewer.
 pub fn first(s: &[u8], n: usize) -> &[u8]
-    ensures { λ r. ⌜ length (now r) ≤ length (now (s .entry)) ⌝ }
+    ensures { λ r. ⌜ (length (now r) ≤ n) × (length (now r) ≤ length (now (s .entry))) ⌝ }
 {
     if n < s.len() { &s[0..n] } else { s }
 }
