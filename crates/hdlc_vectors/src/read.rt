@@ -1,96 +1,98 @@
-// Received frames, and what each is read as.
-use crate::print::answer;
+// What a received frame is read as: its kind, the client and the three bytes of its head; or the number of its refusal, the
+// test that failed, and the byte at which it failed.
+use hdlc::Frame;
+use hdlc::FrameTest;
+use hdlc::Head;
+use hdlc::Place;
+use model::Client;
+use text::field;
+use text::first;
+use text::print;
+use text::print_number;
 
-fn show(name: &[u8], frame: &[u8]) {
-    io::write_all(1, name);
-    io::write_all(1, b": ");
-    answer(frame);
-    io::write_all(1, b"\n");
+pub fn frame(s: &[u8]) {
+    let mut f = [0u8; 800];
+    let n = text::bytes(s, 2, &mut f);
+    answer(first(&f, n));
 }
 
-// Link frames and data frames of both clients.
-pub fn accepted() {
-    show(b"V link up", b"\x7E\xA0\x07\x03\x21\x93\x0F\x01\x7E");
-    show(b"H link up", b"\x7E\xA0\x07\x03\x27\x93\xDF\x55\x7E");
-    show(
-        b"V link up with information",
-        b"\x7E\xA0\x0A\x03\x21\x93\x80\x8A\x00\xCC\xC6\x7E",
-    );
-    show(b"V link down", b"\x7E\xA0\x07\x03\x21\x53\x03\xC7\x7E");
-    show(b"H link down", b"\x7E\xA0\x07\x03\x27\x53\xD3\x93\x7E");
-    show(
-        b"V release",
-        b"\x7E\xA0\x11\x03\x21\x13\x3C\x0D\xE6\xE6\x00\x62\x03\x80\x01\x00\xBD\x9B\x7E",
-    );
-    show(
-        b"H release",
-        b"\x7E\xA0\x11\x03\x27\x13\xEC\x59\xE6\xE6\x00\x62\x03\x80\x01\x00\xBD\x9B\x7E",
-    );
+fn answer(frame: &[u8]) {
+    match hdlc::read_frame(frame) {
+        Frame::Unanswered(test) => refusal(test, frame),
+        Frame::Rejected(test, _) => refusal(test, frame),
+        Frame::LinkUp {
+            client,
+            head,
+            information,
+        } => accepted(if information { 1 } else { 0 }, client, head),
+        Frame::LinkDown { client, head } => accepted(2, client, head),
+        Frame::Apdu {
+            client,
+            head,
+            start,
+            end,
+        } => apdu(client, head, start, end),
+    }
 }
 
-// Frames that a test of refusal 4 refuses, up to the length.
-pub fn shapes() {
-    show(b"eight bytes", b"\x7E\xA0\x07\x03\x21\x93\x0F\x7E");
-    show(b"first flag", b"\x00\xA0\x07\x03\x21\x93\x0F\x01\x7E");
-    show(b"last flag", b"\x7E\xA0\x07\x03\x21\x93\x0F\x01\x00");
-    show(b"type 1011", b"\x7E\xB0\x07\x03\x21\x93\x4F\xB5\x7E");
-    show(b"L 8 in 9 bytes", b"\x7E\xA0\x08\x03\x21\x93\xF6\xB3\x7E");
-    show(
-        b"L 9 in 11 bytes",
-        b"\x7E\xA0\x09\x03\x21\x93\x4D\xAF\x47\x0F\x7E",
-    );
+fn accepted(kind: usize, client: Client, head: Head) {
+    print(field(b"link up|link up with information|link down|APDU", kind));
+    print(field(b", V, |, H, ", number_of(client)));
+    text::print_hex(&[head.destination, head.source, head.control]);
 }
 
-// Frames that a later test of refusal 4 refuses, or that of 5.
-pub fn checks() {
-    show(b"FCS 0F 00", b"\x7E\xA0\x07\x03\x21\x93\x0F\x00\x7E");
-    show(
-        b"HCS 80 8B",
-        b"\x7E\xA0\x0A\x03\x21\x93\x80\x8B\x00\x14\xDF\x7E",
-    );
-    show(b"destination 02", b"\x7E\xA0\x07\x02\x21\x93\xD3\x5B\x7E");
-    show(b"source 20", b"\x7E\xA0\x07\x03\x20\x93\xD7\x18\x7E");
-    show(b"control 97", b"\x7E\xA0\x07\x03\x21\x97\x2B\x47\x7E");
-    show(
-        b"control 87 from 25",
-        b"\x7E\xA0\x07\x03\x25\x87\xCA\x30\x7E",
-    );
+fn apdu(client: Client, head: Head, start: usize, end: usize) {
+    accepted(3, client, head);
+    print(b", from ");
+    print_number(start as u64);
+    print(b" to ");
+    print_number(end as u64);
 }
 
-// Frames that a test of refusal 9 refuses, up to the control.
-pub fn headers() {
-    show(b"segment bit", b"\x7E\xA8\x07\x03\x21\x93\x2F\x5B\x7E");
-    show(b"control 83", b"\x7E\xA0\x07\x03\x21\x83\x8E\x11\x7E");
-    show(b"destination 05", b"\x7E\xA0\x07\x05\x21\x93\xD6\xD7\x7E");
-    show(b"source 25", b"\x7E\xA0\x07\x03\x25\x93\x6F\x66\x7E");
-    show(b"control 73", b"\x7E\xA0\x07\x03\x21\x73\x01\xE6\x7E");
+fn number_of(client: Client) -> usize {
+    match client {
+        Client::Verification => 0,
+        Client::Han => 1,
+    }
 }
 
-// Frames that a test of the information refuses.
-pub fn information() {
-    show(
-        b"V link down with information",
-        b"\x7E\xA0\x0A\x03\x21\x53\x8C\x4C\x00\xCC\xC6\x7E",
-    );
-    show(b"V empty data", b"\x7E\xA0\x07\x03\x21\x13\x07\x85\x7E");
-    show(
-        b"V three bytes",
-        b"\x7E\xA0\x0C\x03\x21\x13\x12\x45\xE6\xE6\x00\x46\xAD\x7E",
-    );
-    show(
-        b"V reply LLC",
-        b"\x7E\xA0\x0D\x03\x21\x13\xA9\x59\xE6\xE7\x00\x62\x2F\xCD\x7E",
-    );
+fn refusal(test: FrameTest, frame: &[u8]) {
+    print_number(hdlc::number_of(test) as u64);
+    print(field(
+        b" short-frame | flag-missing | frame-type | length-mismatch | length-8-or-9 | wrong-FCS | wrong-HCS | even-address \
+        | FRMR-received | over-length | segment-bit | PF-clear | wrong-destination | wrong-source | unknown-control \
+        | link-down-with-information | short-information | wrong-LLC ",
+        place_in_list(test),
+    ));
+    place(hdlc::place_of(test, frame));
 }
 
-// A data frame of 769 bytes of information, one more than the meter takes.
-pub fn over_length() {
-    let mut out = [0u8; 780];
-    let head = hdlc::Head {
-        destination: 0x21,
-        source: 0x03,
-        control: 0x13,
-    };
-    hdlc_write::put_data(&mut out, head, 777);
-    show(b"769 bytes of information", &out);
+fn place(place: Place) {
+    match place {
+        Place::Byte(at) => print_number(at as u64),
+        Place::Nowhere => print(b"-"),
+    }
+}
+
+fn place_in_list(test: FrameTest) -> usize {
+    match test {
+        FrameTest::ShortFrame => 0,
+        FrameTest::FlagMissing => 1,
+        FrameTest::FrameType => 2,
+        FrameTest::LengthMismatch => 3,
+        FrameTest::LengthEightOrNine => 4,
+        FrameTest::WrongFcs => 5,
+        FrameTest::WrongHcs => 6,
+        FrameTest::EvenAddress => 7,
+        FrameTest::FrmrReceived => 8,
+        FrameTest::OverLength => 9,
+        FrameTest::SegmentBit => 10,
+        FrameTest::PfClear => 11,
+        FrameTest::WrongDestination => 12,
+        FrameTest::WrongSource => 13,
+        FrameTest::UnknownControl => 14,
+        FrameTest::LinkDownWithInformation => 15,
+        FrameTest::ShortInformation => 16,
+        FrameTest::WrongLlc => 17,
+    }
 }

@@ -1,18 +1,30 @@
-// Length fields: the least and the greatest length of each form.
-use crate::report::compare;
-use crate::report::first;
+// C: the 16-bit check of bytes, as a number; F: the same as it stands in a frame, its low byte first. L: the length field of a
+// decimal number.
+use text::print_hex;
 
-pub fn run() {
-    length(b"length 0", 0, b"\x00");
-    length(b"length 127", 127, b"\x7F");
-    length(b"length 128", 128, b"\x81\x80");
-    length(b"length 255", 255, b"\x81\xFF");
-    length(b"length 256", 256, b"\x82\x01\x00");
-    length(b"length 65535", 65535, b"\x82\xFF\xFF");
+pub fn line(s: &[u8], m: &[u8]) {
+    let l = text::letter(s);
+    match l {
+        b'C' => number(fcs::check(m)),
+        b'F' => check(fcs::check(m)),
+        _ => length((text::number(s, 2) % 65536) as u16),
+    }
 }
 
-fn length(name: &[u8], n: u16, expected: &[u8]) {
-    let mut got = [0u8; 3];
-    let end = wire::put_length(&mut got, 0, n as usize);
-    compare(name, first(&got, end), expected);
+fn number(n: u16) {
+    let mut out = [0u8; 2];
+    wire::put_u16(&mut out, 0, n);
+    print_hex(&out);
+}
+
+fn check(n: u16) {
+    let mut out = [0u8; 2];
+    wire::put_u16_low_first(&mut out, 0, n);
+    print_hex(&out);
+}
+
+fn length(n: u16) {
+    let mut out = [0u8; 3];
+    let end = wire::put_length(&mut out, 0, n as usize);
+    print_hex(text::first(&out, end));
 }

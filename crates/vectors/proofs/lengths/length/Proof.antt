@@ -1,12 +1,12 @@
 -- `vectors::lengths::length` is safe: a length field takes at most three bytes.
 use native.Mathlib.Omega.{arith}
-use borrow.Author.Needs.{needs}
 use Rattle.wire.proofs.LengthLaws.{field-size}
+use borrow.Author.Needs.{needs}
 use Rattle.vectors.proofs.lengths.length.Statement.{statement}
 use Rattle.vectors.proofs.lengths.length.Tie as tie
 
 put-length-requires : tie.Need-put-length-requires
-put-length-requires c κs = omega (arith, field-size (c .before .before .before .args .n))
+put-length-requires c κs = omega (arith, field-size (c .before .args .n))
 
 pub length-spec : {M : Type 1} → statement M
 length-spec =
