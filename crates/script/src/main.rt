@@ -98,10 +98,10 @@ fn feed(
 ) -> Session {
     let mut next = session;
     let mut at: usize = 0;
-    let mut end = lines::end_from(input, 0);
+    let mut end = text::end_from(input, 0, b'\n');
     while end < input.len() {
         let start = end + 1;
-        let stop = lines::end_from(input, start);
+        let stop = text::end_from(input, start, b'\n');
         next = completed(next, &input[at..end], line, out);
         at = start;
         end = stop;
@@ -137,7 +137,7 @@ fn answered(mut session: Session, line: &[u8; LONGEST], out: &mut [u8; answer::R
     let mut reply = [answer::FILL; answer::REPLY];
     let done = script_calls::made(
         session.meter,
-        lines::first(line, n),
+        text::first(line, n),
         n <= LONGEST,
         &mut reply,
     );

@@ -184,7 +184,7 @@ fn receive(
 
 // The bytes that were read of a byte string.
 fn part(s: &[u8; MOST], n: usize) -> &[u8] {
-    lines::first(s, n)
+    text::first(s, n)
 }
 
 fn take_image(meter: Meter, line: &[u8], from: Cursor) -> Done {

@@ -1,8 +1,7 @@
 // The answer to a line, written into a buffer that is written out whenever it is full, and when the session asks for it. Once
 // writing has failed, answers are still put into the buffer and go nowhere.
-use crate::lines::first;
 use libc::STDOUT_FILENO;
-ghost use Prim.Native.Nat.{_<_};
+use text::first;
 
 // How many bytes the buffer has.
 pub const ROOM: usize = 65536;
@@ -11,8 +10,6 @@ pub const ROOM: usize = 65536;
 pub const REPLY: usize = 4096;
 
 pub const FILL: u8 = 0xA5;
-
-const DIGITS: [u8; 16] = *b"0123456789ABCDEF";
 
 // How many bytes of the buffer wait to be written out, and whether writing failed.
 pub struct Output {
@@ -57,7 +54,7 @@ pub fn put_answer(
     let a = put_decimal(out, output, refusal as u64);
     let b = put(out, a, b' ');
     let c = put_reply(out, b, first(reply, count));
-    let d = put_mark(out, c, after(reply, count));
+    let d = put_mark(out, c, text::after(reply, count));
     put(out, d, b'\n')
 }
 
@@ -69,30 +66,19 @@ fn put_reply(out: &mut [u8; ROOM], output: Output, reply: &[u8]) -> Output {
 }
 
 fn put_mark(out: &mut [u8; ROOM], output: Output, rest: &[u8]) -> Output {
-    if is_untouched(rest) {
+    if text::all_are(rest, FILL) {
         return output;
     }
     put_all(out, output, b" !")
-}
-
-// Whether all bytes have the value that the reply buffer is filled with.
-fn is_untouched(s: &[u8]) -> bool {
-    let mut differing: u8 = 0;
-    let mut i: usize = 0;
-    while i < s.len() {
-        differing = differing | (s[i] ^ FILL);
-        i += 1;
-    }
-    differing == 0
 }
 
 fn put_hex(out: &mut [u8; ROOM], output: Output, s: &[u8]) -> Output {
     let mut next = output;
     let mut i: usize = 0;
     while i < s.len() {
-        let b = wide(s[i]);
-        let high = put(out, next, DIGITS[b / 16]);
-        next = put(out, high, DIGITS[b % 16]);
+        let pair = text::pair_of(s[i]);
+        let high = put(out, next, pair[0]);
+        next = put(out, high, pair[1]);
         i += 1;
     }
     next
@@ -130,15 +116,4 @@ fn put(out: &mut [u8; ROOM], output: Output, b: u8) -> Output {
         used: 1,
         failed: flushed.failed,
     }
-}
-
-// The bytes after the first `n`.
-fn after(s: &[u8], n: usize) -> &[u8] {
-    if n < s.len() { &s[n..] } else { &s[0..0] }
-}
-
-fn wide(b: u8) -> usize
-    ensures { λ r. ⌜ r < 256 ⌝ }
-{
-    b as usize
 }

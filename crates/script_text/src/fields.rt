@@ -1,5 +1,6 @@
 // Fields of a line. A reader goes on from a cursor; one that meets a character with which no line can go on, or the end of
 // the line where it wants more, gives a wrong cursor at that place, and every reader hands a wrong cursor on.
+use text::digit;
 ghost use Prim.Native.Nat.{_≤_};
 
 // A place in a line, and whether all before it was read.
@@ -162,18 +163,6 @@ fn decimal_to(from: usize, at: usize, value: u32) -> Number
         return numbered(value, good(at));
     }
     numbered(0, wrong(at))
-}
-
-// The value of a digit, decimal or hexadecimal; 16 for any other character.
-fn digit(c: u8) -> u8
-    ensures { λ r. ⌜ r ≤ 16 ⌝ }
-{
-    match c {
-        b'0'..=b'9' => c - b'0',
-        b'A'..=b'F' => c - b'A' + 10,
-        b'a'..=b'f' => c - b'a' + 10,
-        _ => 16,
-    }
 }
 
 fn counted(count: usize, cursor: Cursor) -> Count {

@@ -1,25 +1,8 @@
-// Lines of the input: where one ends, the characters of one held in a buffer of the longest line, and what is skipped. Of a
-// line that is longer its first characters are held, and that it is longer.
-ghost use Prim.Native.Nat.{_≤_};
-ghost use lib.ListN.{length};
+// Lines of the input: the characters of one held in a buffer of the longest line, and what is skipped. Of a line that is longer
+// its first characters are held, and that it is longer.
 
 // The most characters that a line may have.
 pub const LONGEST: usize = 32768;
-
-// Where the first line end stands from a place on, or else the end of the bytes.
-pub fn end_from(s: &[u8], from: usize) -> usize
-    requires { ⌜ from ≤ length (now s) ⌝ }
-    ensures { λ r. ⌜ (from ≤ r) × (r ≤ length (now (s .entry))) ⌝ }
-{
-    let mut i = from;
-    while i < s.len() {
-        if s[i] == b'\n' {
-            return i;
-        }
-        i += 1;
-    }
-    i
-}
 
 // Holds more characters behind those held, and gives how many are held then: one more than the longest line has where there
 // is no room for all.
@@ -51,9 +34,4 @@ pub fn is_skipped(line: &[u8; LONGEST], n: usize) -> bool {
 // The column of a place, counted from 1; that after the longest line for every place behind it.
 pub fn column(at: usize) -> usize {
     if at < LONGEST { at + 1 } else { LONGEST + 1 }
-}
-
-// The first `n` bytes, or all where there are fewer.
-pub fn first(s: &[u8], n: usize) -> &[u8] {
-    if n < s.len() { &s[0..n] } else { s }
 }

@@ -26,21 +26,41 @@ pub struct Spoken {
 }
 
 pub fn verb_of(line: &[u8]) -> Spoken {
-    let start = Spoken {
+    spoken_of(
+        line,
+        b"new|registers|value|columns|period|tick|p5|power|frame|image|dump",
+    )
+}
+
+fn spoken_of(line: &[u8], words: &[u8]) -> Spoken {
+    let mut spoken = Spoken {
         verb: Verb::Unknown,
         cursor: wrong(0),
     };
-    let a = tried(start, line, b"new", Verb::New);
-    let b = tried(a, line, b"registers", Verb::Registers);
-    let c = tried(b, line, b"value", Verb::Value);
-    let d = tried(c, line, b"columns", Verb::Columns);
-    let e = tried(d, line, b"period", Verb::Period);
-    let f = tried(e, line, b"tick", Verb::Tick);
-    let g = tried(f, line, b"p5", Verb::P5);
-    let h = tried(g, line, b"power", Verb::Power);
-    let i = tried(h, line, b"frame", Verb::Frame);
-    let j = tried(i, line, b"image", Verb::Image);
-    tried(j, line, b"dump", Verb::Dump)
+    let mut k: usize = 0;
+    while k < 11 {
+        spoken = tried(spoken, line, text::field(words, k), verb_at(k));
+        k += 1;
+    }
+    spoken
+}
+
+// The verbs in the order of their words.
+fn verb_at(k: usize) -> Verb {
+    match k {
+        0 => Verb::New,
+        1 => Verb::Registers,
+        2 => Verb::Value,
+        3 => Verb::Columns,
+        4 => Verb::Period,
+        5 => Verb::Tick,
+        6 => Verb::P5,
+        7 => Verb::Power,
+        8 => Verb::Frame,
+        9 => Verb::Image,
+        10 => Verb::Dump,
+        _ => Verb::Unknown,
+    }
 }
 
 // A verb is tried, unless one was found.
