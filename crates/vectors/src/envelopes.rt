@@ -9,14 +9,14 @@ use envelope::LONGEST_APDU;
 use envelope::Opening;
 use envelope::ReadyKeys;
 use model::Counters;
-use text::after;
+use text::between;
 use text::byte;
 use text::bytes_8;
 use text::bytes_16;
-use text::field;
 use text::first;
 use text::number;
 use text::print;
+use text::print_bool;
 use text::print_hex;
 use text::print_number;
 ghost use Prim.Native.Nat.{_<_, _≤_};
@@ -25,8 +25,8 @@ ghost use lib.ListN.{length};
 pub fn line(s: &[u8], m: &[u8]) {
     let l = text::letter(s);
     match l {
-        b'O' => open(s, after(first(m, place(s, 8)), place(s, 7))),
-        b'W' => admit(s, after(first(m, place(s, 8)), place(s, 7))),
+        b'O' => open(s, between(m, place(s, 7), place(s, 8))),
+        b'W' => admit(s, between(m, place(s, 7), place(s, 8))),
         b'E' => close(s, first(m, 64)),
         b'Z' => answer(s, first(m, 16)),
         b'M' => made(s),
@@ -121,7 +121,7 @@ fn enclose(s: &[u8], mut room: [u8; 512], counter: u32, n: usize)
 {
     let at = place(s, 7);
     let end = envelope::close_envelope(&mut room, at, keys(s), title(s), byte(s, 6), counter, n);
-    print_hex(after(first(&room, end), at));
+    print_hex(between(&room, at, end));
 }
 
 fn made(s: &[u8]) {
@@ -140,12 +140,11 @@ fn tested(s: &[u8], proof: &[u8]) {
         number(s, 8),
         proof,
     );
-    print(field(b"right|wrong", if is_right { 0 } else { 1 }));
+    print_bool(is_right);
 }
 
 fn window(s: &[u8]) {
-    let is_inside = counters::is_in_window(after_counter(number(s, 2)), number(s, 3));
-    print(field(b"inside|outside", if is_inside { 0 } else { 1 }));
+    print_bool(counters::is_in_window(after_counter(number(s, 2)), number(s, 3)));
 }
 
 fn keys(s: &[u8]) -> ReadyKeys {

@@ -1,6 +1,6 @@
 // By the bytes of an APDU: G, a GET request, A, an ACTION request, T, its tag, R, whether it is the release. By the bytes of a
 // value: V, where it ends, D, the four numbers of an entry descriptor. By nothing: Y, the answer to a release, X, the two
-// exceptions. A request is printed as invoke byte, class, name, and attribute or method.
+// exceptions. A request is printed as invoke byte, class and name, and what it wants.
 use cosem::Asked;
 use cosem::Entries;
 use cosem::Exception;
@@ -9,6 +9,7 @@ use cosem::Tag;
 use cosem::Wanted;
 use text::field;
 use text::print;
+use text::print_bool;
 use text::print_hex;
 use text::print_number;
 use wire::End;
@@ -19,7 +20,7 @@ pub fn line(s: &[u8], m: &[u8]) {
         b'G' => reading(m, cosem::read_get(m)),
         b'A' => reading(m, cosem::read_action(m)),
         b'T' => tag(cosem::tag_in(m)),
-        b'R' => release(cosem::is_release(m)),
+        b'R' => print_bool(cosem::is_release(m)),
         b'V' => value(axdr::value_end(m, 0)),
         b'D' => entries(cosem::entries_at(m, 0)),
         b'Y' => released(),
@@ -31,35 +32,38 @@ fn reading(apdu: &[u8], r: Reading) {
     let Reading::Asks(q) = r else {
         return print(b"malformed");
     };
+    print_hex(&[q.invoke]);
+    spaced(&[(q.class / 256) as u8, (q.class % 256) as u8]);
+    let name = cosem::name_in(apdu);
+    let b = name.bytes;
+    spaced(&b);
     let w = q.wanted;
+    wanted(w);
+}
+
+fn wanted(w: Wanted) {
     match w {
-        Wanted::Read { attribute } => asked(apdu, q, 0, attribute),
+        Wanted::Read { attribute } => one(0, attribute),
         Wanted::ReadSelected {
             attribute,
             selector,
             at,
         } => {
-            asked(apdu, q, 0, attribute);
-            print(b", selector");
-            spaced(&[selector]);
+            one(0, attribute);
+            one(2, selector);
             value_at(at);
         }
-        Wanted::Invoke { method } => asked(apdu, q, 1, method),
+        Wanted::Invoke { method } => one(1, method),
         Wanted::InvokeWith { method, at } => {
-            asked(apdu, q, 1, method);
+            one(1, method);
             value_at(at);
         }
     }
 }
 
-fn asked(apdu: &[u8], q: Asked, kind: usize, id: u8) {
-    print(field(b"GET|ACTION", kind));
-    spaced(&[q.invoke]);
-    spaced(&[(q.class / 256) as u8, (q.class % 256) as u8]);
-    let name = cosem::name_in(apdu);
-    let b = name.bytes;
-    spaced(&b);
-    spaced(&[id]);
+fn one(k: usize, b: u8) {
+    print(field(b", attribute|, method|, selector", k));
+    spaced(&[b]);
 }
 
 fn spaced(s: &[u8]) {
@@ -89,10 +93,6 @@ fn tag(t: Tag) {
         b"AARQ|RLRQ|GET|SET|ACTION|glo ACTION|ded GET|ded SET|ded ACTION|unknown",
         k,
     ));
-}
-
-fn release(is_release: bool) {
-    print(field(b"release|none", if is_release { 0 } else { 1 }));
 }
 
 fn value(end: End) {
