@@ -23,6 +23,7 @@ pub fn print_hex(s: &[u8]) {
     }
 }
 
+// Yes or no.
 pub fn print_bool(b: bool) {
     print(field(b"no|yes", if b { 1 } else { 0 }));
 }

@@ -1,9 +1,4 @@
-// Envelopes and challenge proofs. A line has bytes, key, AK and title, and then: O, W, by a frame: the tag of the APDU in it, the
-// places between which it stands; O: its counter and text, W: after a counter that was accepted, the number of its refusal, 0
-// where it is admitted. E, by a text: the envelope closed around it, by tag, place and counter. M: the proof made, by challenge
-// and counter; K, by a proof: whether it is right, by challenge, accepted counter and the envelope's. Z, by what goes before the
-// proof: the envelope around both, by challenge, tag, place, and the counters accepted and sent. B: whether a counter lies in the
-// window after another.
+// Envelopes, opened and closed, challenge proofs, and the window of counters.
 use envelope::Admission;
 use envelope::LONGEST_APDU;
 use envelope::Opening;
@@ -22,6 +17,14 @@ use text::print_number;
 ghost use Prim.Native.Nat.{_<_, _≤_};
 ghost use lib.ListN.{length};
 
+// The fields after the name are bytes, key, AK and title, and then
+//   O: of a frame: the tag of the APDU in it, its first place and its end. It is opened
+//   W: the same, and a counter that was accepted: the number of its refusal, 0 where it is admitted
+//   E: of a text: tag, place and counter of the envelope that is closed around it
+//   Z: of what stands before the meter's proof: tag and place of the envelope, counters accepted and sent, challenge
+//   M: of nothing: challenge and counter of a proof that is made
+//   K: of a proof: challenge, accepted counter and that of its envelope: whether it is right
+//   B has two counters after its name: whether the second lies in the window after the first
 pub fn line(s: &[u8], m: &[u8]) {
     let l = text::letter(s);
     match l {
@@ -92,8 +95,8 @@ fn answer(s: &[u8], plain: &[u8])
         accepted: number(s, 8),
         sent: number(s, 9),
     });
-    let between = proof.counters;
-    let sealing = counters::take(between);
+    let next = proof.counters;
+    let sealing = counters::take(next);
     prove(s, plain, proof.number, sealing.number);
 }
 

@@ -1,7 +1,4 @@
-// By the bytes of an APDU: G, a GET request, A, an ACTION request, T, its tag, R, whether it is the release. By the bytes of a
-// value: V, where it ends, D, the four numbers of an entry descriptor. By nothing: Y, the answer to a release, X, the two
-// exceptions. A request is printed as invoke byte, class and name, and what it wants.
-use cosem::Asked;
+// Requests, values, release and exceptions.
 use cosem::Entries;
 use cosem::Exception;
 use cosem::Reading;
@@ -14,6 +11,8 @@ use text::print_hex;
 use text::print_number;
 use wire::End;
 
+// Of an APDU: G, what it is read as by GET, and A, by ACTION; T, its tag; R, whether it is the release. Of a value: V, where it
+// ends; D, the entry descriptor that it is. Of nothing: Y, the answer to a release; X, the two exceptions.
 pub fn line(s: &[u8], m: &[u8]) {
     let l = text::letter(s);
     match l {
@@ -28,6 +27,7 @@ pub fn line(s: &[u8], m: &[u8]) {
     }
 }
 
+// Invoke byte, class and name, and what is wanted.
 fn reading(apdu: &[u8], r: Reading) {
     let Reading::Asks(q) = r else {
         return print(b"malformed");
@@ -43,25 +43,26 @@ fn reading(apdu: &[u8], r: Reading) {
 
 fn wanted(w: Wanted) {
     match w {
-        Wanted::Read { attribute } => one(0, attribute),
+        Wanted::Read { attribute } => named(0, attribute),
         Wanted::ReadSelected {
             attribute,
             selector,
             at,
         } => {
-            one(0, attribute);
-            one(2, selector);
+            named(0, attribute);
+            named(2, selector);
             value_at(at);
         }
-        Wanted::Invoke { method } => one(1, method),
+        Wanted::Invoke { method } => named(1, method),
         Wanted::InvokeWith { method, at } => {
-            one(1, method);
+            named(1, method);
             value_at(at);
         }
     }
 }
 
-fn one(k: usize, b: u8) {
+// A byte after its word.
+fn named(k: usize, b: u8) {
     print(field(b", attribute|, method|, selector", k));
     spaced(&[b]);
 }
