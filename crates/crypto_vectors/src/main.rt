@@ -2,7 +2,7 @@
 // with a bar between them; what it comes to is printed after its name. Lines that are empty or begin with `#` are headings.
 use gcm::ReadyKey;
 use libc::STDIN_FILENO;
-use text::after;
+use text::between;
 use text::bytes;
 use text::bytes_12;
 use text::bytes_16;
@@ -61,7 +61,7 @@ fn outcome(s: &[u8], aad: &[u8], m: &[u8]) {
         b'S' => seal(k, v, aad, first(m, 64)),
         b'O' => open(k, v, aad, m, &bytes_12(s, 6)),
         b'M' => print_hex(&gcm::gmac(k, v, aad)),
-        _ => test(k, v, aad, m),
+        _ => text::print_bool(gcm::is_authentic(k, v, aad, b"", m)),
     }
 }
 
@@ -81,33 +81,29 @@ fn sealed(k: ReadyKey, v: [u8; 12], aad: &[u8], buf: &[u8], e: usize)
     requires { ⌜ e ≤ 69 ⌝ }
 {
     print(b"sealed ");
-    print_hex(after(first(buf, e + 13), 4));
+    print_hex(between(buf, 4, e + 13));
     print(b", ");
-    open(
-        k,
-        v,
-        aad,
-        after(first(buf, e), 5),
-        after(first(buf, e + 12), e),
-    );
+    open(k, v, aad, between(buf, 5, e), between(buf, e, e + 12));
 }
 
-// The plain text, `-` for none; or that it is refused, and a mark where the buffer for it has not kept its bytes.
 fn open(k: ReadyKey, v: [u8; 12], aad: &[u8], c: &[u8], t: &[u8]) {
     let mut out = [0x5au8; 128];
     if gcm::open_into(k, v, aad, c, t, &mut out) {
-        print(field(b"opened |opened -", if c.len() == 0 { 1 } else { 0 }));
-        return print_hex(first(&out, c.len()));
+        return opened(first(&out, c.len()));
     }
-    print(b"refused");
-    if !text::all_are(&out, 0x5a) {
-        print(b" !");
-    }
+    refused(&out);
 }
 
-fn test(k: ReadyKey, v: [u8; 12], aad: &[u8], t: &[u8]) {
-    if gcm::is_authentic(k, v, aad, b"", t) {
-        return print(b"authentic");
-    }
-    print(b"not authentic");
+// The plain text, or `-` where it is empty.
+fn opened(plain: &[u8]) {
+    print(field(b"opened |opened -", if plain.len() == 0 { 1 } else { 0 }));
+    print_hex(plain);
+}
+
+// A mark, where the buffer for the plain text has not kept its bytes.
+fn refused(out: &[u8]) {
+    print(field(
+        b"refused !|refused",
+        if text::all_are(out, 0x5a) { 1 } else { 0 },
+    ));
 }

@@ -1,14 +1,13 @@
 // Lines of a text: where one begins and where it ends. The last may do without a line end.
+use crate::parts::after;
+use crate::parts::first;
 ghost use Prim.Native.Nat.{_<_, _≤_};
 ghost use lib.ListN.{length};
 
 // The line that begins at a place, without its line end; nothing behind the text.
 pub fn line_at(text: &[u8], from: usize) -> &[u8] {
-    if from < text.len() {
-        let end = end_from(text, from, b'\n');
-        return &text[from..end];
-    }
-    &text[0..0]
+    let rest = after(text, from);
+    first(rest, end_from(rest, 0, b'\n'))
 }
 
 // The place after that line and its line end.

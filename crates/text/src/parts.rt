@@ -14,6 +14,11 @@ pub fn after(s: &[u8], n: usize) -> &[u8] {
     if n < s.len() { &s[n..] } else { &s[0..0] }
 }
 
+// The bytes from one place to another.
+pub fn between(s: &[u8], from: usize, to: usize) -> &[u8] {
+    after(first(s, to), from)
+}
+
 // Whether all bytes have this value. Each is looked at, so that the loop has one way through it.
 pub fn all_are(s: &[u8], b: u8) -> bool {
     let mut differing: u8 = 0;

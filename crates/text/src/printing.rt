@@ -23,6 +23,11 @@ pub fn print_hex(s: &[u8]) {
     }
 }
 
+// Yes or no.
+pub fn print_bool(b: bool) {
+    print(field(b"no|yes", if b { 1 } else { 0 }));
+}
+
 // What stands before the outcome of a line: its name, which is field 1; a line that is empty or begins with `#` as it is.
 pub fn print_name(line: &[u8]) {
     let first = letter(line);

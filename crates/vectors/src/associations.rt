@@ -1,7 +1,4 @@
-// The messages that open an association. Q: an AARQ, by the client whose link it comes on and the title held for that client; I:
-// an opened initiate request. S: services that are proposed, and by the client: those agreed. P, H: the AARE that accepts a
-// client, plain by the services or up to its envelope by the meter's challenge, and by the client and the meter's title; N: the
-// initiate response, by the services; J: the AARE that rejects a client.
+// The messages that open an association: read, and written.
 use acse::Aarq;
 use acse::InitiateRequest;
 use model::Client;
@@ -10,6 +7,10 @@ use text::first;
 use text::print;
 use text::print_hex;
 
+// Q: an AARQ, by the client whose link it comes on and the title held for that client. I: an opened initiate request. S: of the
+// services proposed, those agreed with a client. P: the AARE that accepts a client, by services, client and the meter's title; H:
+// the same up to its envelope, by the meter's challenge, client and the meter's title. N: the initiate response, by services. J:
+// the AARE that rejects a client; the field before the client is empty.
 pub fn line(s: &[u8], m: &[u8]) {
     let l = text::letter(s);
     match l {

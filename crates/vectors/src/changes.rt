@@ -1,5 +1,5 @@
-// A message with one bit changed, for each of its bits in turn: the places at which it is then accepted, and how many of their
-// eight bits are such where these are not all.
+// Messages with one bit changed, for each of their bits in turn.
+use crate::LONGEST;
 use crate::associations;
 use crate::envelopes;
 use text::print;
@@ -8,6 +8,8 @@ ghost use Prim.Native.Nat.{_≤_};
 
 const BITS: [u8; 8] = [1, 2, 4, 8, 16, 32, 64, 128];
 
+// q, i, o: the lines Q, I and O, the last with an APDU for its frame: the places at which the message is accepted with a bit
+// changed, and for how many of the eight bits where that is not so for all.
 pub fn places(s: &[u8], m: &[u8]) {
     print(b"accepted at");
     let mut nowhere = true;
@@ -51,9 +53,9 @@ fn accepted_at(s: &[u8], i: usize) -> usize {
 fn accepted(s: &[u8], i: usize, bit: u8) -> usize
     ensures { λ r. ⌜ r ≤ 1 ⌝ }
 {
-    let mut m = [0u8; 128];
+    let mut m = [0u8; LONGEST];
     let n = text::bytes(s, 2, &mut m);
-    let at = i % 128;
+    let at = i % LONGEST;
     m[at] = m[at] ^ bit;
     if is_accepted(s, text::first(&m, n)) {
         1

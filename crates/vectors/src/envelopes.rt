@@ -1,32 +1,35 @@
-// Envelopes and challenge proofs. A line has bytes, key, AK and title, and then: O, W, by a frame: the tag of the APDU in it, the
-// places between which it stands; O: its counter and text, W: after a counter that was accepted, the number of its refusal, 0
-// where it is admitted. E, by a text: the envelope closed around it, by tag, place and counter. M: the proof made, by challenge
-// and counter; K, by a proof: whether it is right, by challenge, accepted counter and the envelope's. Z, by what goes before the
-// proof: the envelope around both, by challenge, tag, place, and the counters accepted and sent. B: whether a counter lies in the
-// window after another.
+// Envelopes, opened and closed, challenge proofs, and the window of counters.
 use envelope::Admission;
 use envelope::LONGEST_APDU;
 use envelope::Opening;
 use envelope::ReadyKeys;
 use model::Counters;
-use text::after;
+use text::between;
 use text::byte;
 use text::bytes_8;
 use text::bytes_16;
-use text::field;
 use text::first;
 use text::number;
 use text::print;
+use text::print_bool;
 use text::print_hex;
 use text::print_number;
 ghost use Prim.Native.Nat.{_<_, _≤_};
 ghost use lib.ListN.{length};
 
+// The fields after the name are bytes, key, AK and title, and then
+//   O: of a frame: the tag of the APDU in it, its first place and its end. It is opened
+//   W: the same, and a counter that was accepted: the number of its refusal, 0 where it is admitted
+//   E: of a text: tag, place and counter of the envelope that is closed around it
+//   Z: of what stands before the meter's proof: tag and place of the envelope, counters accepted and sent, challenge
+//   M: of nothing: challenge and counter of a proof that is made
+//   K: of a proof: challenge, accepted counter and that of its envelope: whether it is right
+//   B has two counters after its name: whether the second lies in the window after the first
 pub fn line(s: &[u8], m: &[u8]) {
     let l = text::letter(s);
     match l {
-        b'O' => open(s, after(first(m, place(s, 8)), place(s, 7))),
-        b'W' => admit(s, after(first(m, place(s, 8)), place(s, 7))),
+        b'O' => open(s, between(m, place(s, 7), place(s, 8))),
+        b'W' => admit(s, between(m, place(s, 7), place(s, 8))),
         b'E' => close(s, first(m, 64)),
         b'Z' => answer(s, first(m, 16)),
         b'M' => made(s),
@@ -92,8 +95,8 @@ fn answer(s: &[u8], plain: &[u8])
         accepted: number(s, 8),
         sent: number(s, 9),
     });
-    let between = proof.counters;
-    let sealing = counters::take(between);
+    let next = proof.counters;
+    let sealing = counters::take(next);
     prove(s, plain, proof.number, sealing.number);
 }
 
@@ -121,7 +124,7 @@ fn enclose(s: &[u8], mut room: [u8; 512], counter: u32, n: usize)
 {
     let at = place(s, 7);
     let end = envelope::close_envelope(&mut room, at, keys(s), title(s), byte(s, 6), counter, n);
-    print_hex(after(first(&room, end), at));
+    print_hex(between(&room, at, end));
 }
 
 fn made(s: &[u8]) {
@@ -140,12 +143,11 @@ fn tested(s: &[u8], proof: &[u8]) {
         number(s, 8),
         proof,
     );
-    print(field(b"right|wrong", if is_right { 0 } else { 1 }));
+    print_bool(is_right);
 }
 
 fn window(s: &[u8]) {
-    let is_inside = counters::is_in_window(after_counter(number(s, 2)), number(s, 3));
-    print(field(b"inside|outside", if is_inside { 0 } else { 1 }));
+    print_bool(counters::is_in_window(after_counter(number(s, 2)), number(s, 3)));
 }
 
 fn keys(s: &[u8]) -> ReadyKeys {

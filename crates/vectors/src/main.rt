@@ -1,13 +1,16 @@
 // Checks, lengths, requests, associations and envelopes from lines of standard input. A line has a letter, a name and fields,
 // with a bar between them; what it comes to is printed after its name. Lines that are empty or begin with `#` are headings. Each
-// module says what its letters stand for, and what the fields after the name are.
+// module says at its function `line` what its letters stand for, and what the fields after the name are.
 mod associations;
 mod changes;
+mod checks;
 mod envelopes;
-mod lengths;
 mod requests;
 
 use libc::STDIN_FILENO;
+
+// The most bytes that a field may have.
+pub const LONGEST: usize = 300;
 
 fn main() {
     let mut input = io::large_buffer();
@@ -25,7 +28,7 @@ fn each(input: &[u8]) {
 
 // A line, and the bytes of the field after its name.
 fn line(s: &[u8]) {
-    let mut b = [0u8; 300];
+    let mut b = [0u8; LONGEST];
     let n = text::bytes(s, 2, &mut b);
     text::print_name(s);
     outcome(s, text::first(&b, n));
@@ -35,7 +38,7 @@ fn line(s: &[u8]) {
 fn outcome(s: &[u8], m: &[u8]) {
     let l = text::letter(s);
     match l {
-        b'C' | b'F' | b'L' => lengths::line(s, m),
+        b'C' | b'F' | b'L' => checks::line(s, m),
         b'G' | b'A' | b'V' | b'D' | b'T' | b'R' | b'Y' | b'X' => requests::line(s, m),
         b'Q' | b'I' | b'S' | b'P' | b'H' | b'N' | b'J' => associations::line(s, m),
         b'O' | b'W' | b'E' | b'Z' | b'K' | b'M' | b'B' => envelopes::line(s, m),

@@ -1,7 +1,4 @@
-// By the bytes of an APDU: G, a GET request, A, an ACTION request, T, its tag, R, whether it is the release. By the bytes of a
-// value: V, where it ends, D, the four numbers of an entry descriptor. By nothing: Y, the answer to a release, X, the two
-// exceptions. A request is printed as invoke byte, class, name, and attribute or method.
-use cosem::Asked;
+// Requests, values, release and exceptions.
 use cosem::Entries;
 use cosem::Exception;
 use cosem::Reading;
@@ -9,17 +6,20 @@ use cosem::Tag;
 use cosem::Wanted;
 use text::field;
 use text::print;
+use text::print_bool;
 use text::print_hex;
 use text::print_number;
 use wire::End;
 
+// Of an APDU: G, what it is read as by GET, and A, by ACTION; T, its tag; R, whether it is the release. Of a value: V, where it
+// ends; D, the entry descriptor that it is. Of nothing: Y, the answer to a release; X, the two exceptions.
 pub fn line(s: &[u8], m: &[u8]) {
     let l = text::letter(s);
     match l {
         b'G' => reading(m, cosem::read_get(m)),
         b'A' => reading(m, cosem::read_action(m)),
         b'T' => tag(cosem::tag_in(m)),
-        b'R' => release(cosem::is_release(m)),
+        b'R' => print_bool(cosem::is_release(m)),
         b'V' => value(axdr::value_end(m, 0)),
         b'D' => entries(cosem::entries_at(m, 0)),
         b'Y' => released(),
@@ -27,39 +27,44 @@ pub fn line(s: &[u8], m: &[u8]) {
     }
 }
 
+// Invoke byte, class and name, and what is wanted.
 fn reading(apdu: &[u8], r: Reading) {
     let Reading::Asks(q) = r else {
         return print(b"malformed");
     };
+    print_hex(&[q.invoke]);
+    spaced(&[(q.class / 256) as u8, (q.class % 256) as u8]);
+    let name = cosem::name_in(apdu);
+    let b = name.bytes;
+    spaced(&b);
     let w = q.wanted;
+    wanted(w);
+}
+
+fn wanted(w: Wanted) {
     match w {
-        Wanted::Read { attribute } => asked(apdu, q, 0, attribute),
+        Wanted::Read { attribute } => named(0, attribute),
         Wanted::ReadSelected {
             attribute,
             selector,
             at,
         } => {
-            asked(apdu, q, 0, attribute);
-            print(b", selector");
-            spaced(&[selector]);
+            named(0, attribute);
+            named(2, selector);
             value_at(at);
         }
-        Wanted::Invoke { method } => asked(apdu, q, 1, method),
+        Wanted::Invoke { method } => named(1, method),
         Wanted::InvokeWith { method, at } => {
-            asked(apdu, q, 1, method);
+            named(1, method);
             value_at(at);
         }
     }
 }
 
-fn asked(apdu: &[u8], q: Asked, kind: usize, id: u8) {
-    print(field(b"GET|ACTION", kind));
-    spaced(&[q.invoke]);
-    spaced(&[(q.class / 256) as u8, (q.class % 256) as u8]);
-    let name = cosem::name_in(apdu);
-    let b = name.bytes;
-    spaced(&b);
-    spaced(&[id]);
+// A byte after its word.
+fn named(k: usize, b: u8) {
+    print(field(b", attribute|, method|, selector", k));
+    spaced(&[b]);
 }
 
 fn spaced(s: &[u8]) {
@@ -89,10 +94,6 @@ fn tag(t: Tag) {
         b"AARQ|RLRQ|GET|SET|ACTION|glo ACTION|ded GET|ded SET|ded ACTION|unknown",
         k,
     ));
-}
-
-fn release(is_release: bool) {
-    print(field(b"release|none", if is_release { 0 } else { 1 }));
 }
 
 fn value(end: End) {

@@ -1,7 +1,8 @@
-// C: the 16-bit check of bytes, as a number; F: the same as it stands in a frame, its low byte first. L: the length field of a
-// decimal number.
+// Checks and length fields.
 use text::print_hex;
 
+// C: the 16-bit check of bytes, as a number. F: the same as it stands in a frame, its low byte first. L: the length field of a
+// decimal number.
 pub fn line(s: &[u8], m: &[u8]) {
     let l = text::letter(s);
     match l {

@@ -1,9 +1,9 @@
--- `vectors::lengths::length` is safe: a length field takes at most three bytes.
+-- `vectors::checks::length` is safe: a length field takes at most three bytes.
 use native.Mathlib.Omega.{arith}
 use Rattle.wire.proofs.LengthLaws.{field-size}
 use borrow.Author.Needs.{needs}
-use Rattle.vectors.proofs.lengths.length.Statement.{statement}
-use Rattle.vectors.proofs.lengths.length.Tie as tie
+use Rattle.vectors.proofs.checks.length.Statement.{statement}
+use Rattle.vectors.proofs.checks.length.Tie as tie
 
 put-length-requires : tie.Need-put-length-requires
 put-length-requires c κs = omega (arith, field-size (c .before .args .n))
