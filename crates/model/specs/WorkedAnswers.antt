@@ -1,10 +1,11 @@
--- Worked answers of a body, byte by byte: each kind of data that a meter sends, and the codes of a method that V names, which
+-- Worked answers of a body, byte by byte: each kind of data that a meter sends, and the answer to a method that V names, which
 -- no frame reaches, since V is never let ask for one. proofs/WorkedAnswers shows that the definitions of specs/Objects give
 -- them all. Kinds are those of document 01: 01 array, 02 structure, 06 and 12 numbers of 32 and 16 bits, 09 octet string,
 -- 0A visible string, 0F integer, 16 enumeration. No other definition cites this table.
-use mathlib.Core.Bool.{Bool, true}
+use mathlib.Core.Bool.{Bool, true, _&&_}
 use mathlib.Core.List.{List, [], _∷_, _++_}
 use Prim.Native.Nat.{ℕ}
+use lib.Dec.{eqb}
 use Rattle.wire.specs.Reading.{sameBytes}
 use Rattle.model.specs.declared.Name.{Name}
 use Rattle.model.specs.declared.Clock.{Clock}
@@ -40,14 +41,15 @@ workedBody =
           };
     }
 
--- the answer to a request with the invoke byte C1 has these bytes
-abbrev pub answers : Client → ℕ → Name → Service → List ℕ → Bool
-answers c k n s bytes =
-    sameBytes (turned (record { client = c; invoke = 0xC1; selective = true; class = k; name = n; service = s }) workedBody .bytes) bytes
+-- what a request with the invoke byte C1 comes to: its refusal, or 0, and the bytes of its answer
+abbrev pub answers : Client → ℕ → Name → Service → (refusal : ℕ) → List ℕ → Bool
+answers c k n s refusal bytes =
+    let t = turned (record { client = c; invoke = 0xC1; selective = true; class = k; name = n; service = s }) workedBody in
+    eqb (t .refusal) refusal && sameBytes (t .bytes) bytes
 
 -- H reads an attribute whole, and the data are these
 abbrev pub reads : ℕ → Name → ℕ → List ℕ → Bool
-reads k n a d = answers Han k n (get a all) (0xC4 ∷ 0x01 ∷ 0xC1 ∷ 0x00 ∷ d)
+reads k n a d = answers Han k n (get a all) 0 (0xC4 ∷ 0x01 ∷ 0xC1 ∷ 0x00 ∷ d)
 
 unfoldable pub workedAnswers : List Bool
 workedAnswers =
@@ -67,5 +69,5 @@ workedAnswers =
     ∷ reads 7 (named 0 0 21 0 6 255) 2
     (0x01 ∷ 0x01 ∷ 0x02 ∷ 0x03 ∷ 0x12 ∷ 0x13 ∷ 0x84 ∷ 0x09 ∷ 0x0C ∷ workedClock .bytes ++ 0x06 ∷ 0x01 ∷ 0x02 ∷ 0x03 ∷ 0x04 ∷ [])
     -- V's method 1 of the device name is not served
-    ∷ answers Verification 1 (named 0 0 42 0 0 255) (action 1 absent) (0xC7 ∷ 0x01 ∷ 0xC1 ∷ 0x03 ∷ 0x00 ∷ [])
+    ∷ answers Verification 1 (named 0 0 42 0 0 255) (action 1 absent) 13 (0xC7 ∷ 0x01 ∷ 0xC1 ∷ 0x03 ∷ 0x00 ∷ [])
     ∷ []
