@@ -44,7 +44,7 @@ pub fn lines(call: &str, meter: &Meter, letters: Letters) -> Result<Vec<String>,
     let frames = match client {
         "bytes" => vec![plug::raw(words)?],
         "V" => plug::verification(words, meter)?,
-        "H" => plug::han(words, meter)?,
+        "H" => plug::han(words, meter, &lent.challenge)?,
         word => return Err(format!("\"{word}\" begins no call")),
     };
     Ok(frames.iter().map(|frame| lent.line(frame, letters)).collect())

@@ -31,13 +31,14 @@ const INVOKE: u8 = 0xC1;
 /// The frames of V's words.
 pub fn verification(mut words: Words, meter: &Meter) -> Result<Vec<Vec<u8>>, String> {
     let title = words.array_or("title", meter.verification.title)?;
-    Plug { address: VERIFICATION, title, words, meter }.frames()
+    Plug { address: VERIFICATION, title, challenge: METER_CHALLENGE, words, meter }.frames()
 }
 
-/// The frames of H's words.
-pub fn han(mut words: Words, meter: &Meter) -> Result<Vec<Vec<u8>>, String> {
+/// The frames of H's words; the challenge is the one that is lent to them.
+pub fn han(mut words: Words, meter: &Meter, challenge: &[u8]) -> Result<Vec<Vec<u8>>, String> {
     let title = words.array_or("title", meter.han.title)?;
-    Plug { address: HAN, title, words, meter }.frames()
+    let challenge = challenge.try_into().unwrap_or(METER_CHALLENGE);
+    Plug { address: HAN, title, challenge, words, meter }.frames()
 }
 
 /// The bytes of a frame as they stand, but for `CHECK`: the right check of all bytes behind the first.
@@ -56,6 +57,7 @@ pub fn raw(mut words: Words) -> Result<Vec<u8>, String> {
 struct Plug<'a> {
     address: u8,
     title: Title,
+    challenge: Challenge,
     words: Words<'a>,
     meter: &'a Meter,
 }
@@ -89,10 +91,10 @@ impl Plug<'_> {
 
     /// The frames after which the client may ask: link up, AARQ, and H's proof.
     fn entrance(&mut self) -> Result<Vec<Vec<u8>>, String> {
-        let counter = self.counter("counter", OPENING_COUNTER)?;
+        let counter = self.opening_counter()?;
         let mut frames = vec![self.link(LINK_UP), client::carried(self.address, &self.opening(counter)?)];
         if self.is_han() {
-            let entry = self.han().entry(counter.wrapping_add(1), counter.wrapping_add(2), &METER_CHALLENGE);
+            let entry = self.han().entry(counter.wrapping_add(1), counter.wrapping_add(2), &self.challenge);
             frames.push(client::carried(self.address, &entry));
         }
         Ok(frames)
@@ -103,9 +105,9 @@ impl Plug<'_> {
             "apdu" => self.words.all_bytes(),
             "release" => Ok(RELEASE_REQUEST.to_vec()),
             "aarq" => {
-                let counter = self.counter("counter", OPENING_COUNTER)?;
+                let counter = self.opening_counter()?;
                 let apdu = self.opening(counter)?;
-                Ok(self.forged(apdu))
+                Ok(if self.is_han() { self.forged(apdu) } else { apdu })
             }
             "get" if self.is_han() => self.sealed(SEALED_GET, |plug| plug.request(GET)),
             "act" if self.is_han() => self.sealed(SEALED_ACTION, |plug| plug.request(ACTION)),
@@ -127,6 +129,14 @@ impl Plug<'_> {
             authentication: AUTHENTICATION,
             dedicated: DEDICATED,
             challenge: HAN_CHALLENGE,
+        }
+    }
+
+    /// The counter of H's AARQ; V's has none.
+    fn opening_counter(&mut self) -> Result<u32, String> {
+        match self.is_han() {
+            true => self.counter("counter", OPENING_COUNTER),
+            false => Ok(0),
         }
     }
 
@@ -174,7 +184,7 @@ impl Plug<'_> {
         let name = self.words.option("name").map_or(Ok(CHALLENGE), name)?;
         let challenge = match self.meter.han.association {
             Ciphered::Pending { meter_challenge, .. } => meter_challenge,
-            _ => METER_CHALLENGE,
+            _ => self.challenge,
         };
         let mut proof = self.han().proof(inner, &challenge);
         if self.words.flag("wrong") {
@@ -192,7 +202,8 @@ impl Plug<'_> {
         let [invoke] = self.words.array_or("invoke", [INVOKE])?;
         let head = [&[service, 0x01, invoke], &class.to_be_bytes()[..], &name, &[number]].concat();
         let addition = match (self.words.bytes("with")?, self.words.option("entries")) {
-            (Some(with), _) => [&[0x01], &with[..]].concat(),
+            (Some(_), Some(_)) => return Err("with and entries exclude each other".into()),
+            (Some(with), None) => [&[0x01], &with[..]].concat(),
             (None, Some(entries)) => [&[0x01], &self.selection(entries)?[..]].concat(),
             (None, None) => vec![0x00],
         };

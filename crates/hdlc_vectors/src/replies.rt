@@ -24,7 +24,7 @@ pub fn frmr(s: &[u8]) {
     show(&out, count);
 }
 
-// The test that failed, which the line has by its name.
+// The test that failed, by the first letter of its name: over-length, short-information, wrong-source, or else unknown-control.
 fn test_of(s: &[u8]) -> FrameTest {
     let l = text::letter(text::field(s, 4));
     match l {
