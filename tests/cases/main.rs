@@ -1,6 +1,7 @@
 //! Makes the files that come from tests/cases, or with --check tells where the files that stand are others.
 
 use cases::exchange::Exchange;
+use cases::night::Night;
 use std::fs;
 use std::process::ExitCode;
 
@@ -29,7 +30,7 @@ fn main() -> ExitCode {
 
 /// Every file that is made.
 fn made() -> Result<Vec<Made>, String> {
-    Ok(script()?.into())
+    Ok(script()?.into_iter().chain(day()?).collect())
 }
 
 /// The files of the script program, from all files of its source in the order of their names.
@@ -43,6 +44,18 @@ fn script() -> Result<[Made; 2], String> {
     }
     let [input, output] = exchange.files();
     Ok([Made { path: "crates/script/stdin", content: input }, Made { path: "crates/script/stdout", content: output }])
+}
+
+/// The play of the program `day`, and what it prints.
+fn day() -> Result<[Made; 2], String> {
+    let mut night = Night::begun();
+    let path = "tests/cases/day.txt";
+    let text = fs::read_to_string(path).map_err(|error| format!("{path}: {error}"))?;
+    for (number, line) in text.lines().enumerate() {
+        night.add(line).map_err(|error| format!("{path}:{}: {error}\n    {line}", number + 1))?;
+    }
+    let [play, output] = night.files();
+    Ok([Made { path: "crates/day/src/play.rt", content: play }, Made { path: "crates/day/stdout", content: output }])
 }
 
 fn sources(folder: &str) -> Result<Vec<String>, String> {

@@ -18,7 +18,7 @@ pub const AUTHENTICATION: Block =
 pub const METER_CHALLENGE: Challenge = *b"P6wRJ21F";
 
 /// H's own: the dedicated key, the challenge that it draws, the counter of its AARQ.
-const DEDICATED: Block =
+pub const DEDICATED: Block =
     [0x00, 0x11, 0x22, 0x33, 0x44, 0x55, 0x66, 0x77, 0x88, 0x99, 0xAA, 0xBB, 0xCC, 0xDD, 0xEE, 0xFF];
 const HAN_CHALLENGE: Challenge = *b"K56iVagY";
 const OPENING_COUNTER: u32 = 200;
@@ -31,14 +31,19 @@ const INVOKE: u8 = 0xC1;
 /// The frames of V's words.
 pub fn verification(mut words: Words, meter: &Meter) -> Result<Vec<Vec<u8>>, String> {
     let title = words.array_or("title", meter.verification.title)?;
-    Plug { address: VERIFICATION, title, challenge: METER_CHALLENGE, words, meter }.frames()
+    Plug { address: VERIFICATION, title, challenge: METER_CHALLENGE, keys: None, words, meter }.frames()
 }
 
 /// The frames of H's words; the challenge is the one that is lent to them.
 pub fn han(mut words: Words, meter: &Meter, challenge: &[u8]) -> Result<Vec<Vec<u8>>, String> {
     let title = words.array_or("title", meter.han.title)?;
     let challenge = challenge.try_into().unwrap_or(METER_CHALLENGE);
-    Plug { address: HAN, title, challenge, words, meter }.frames()
+    let keys = match words.bytes("keys")?.as_deref() {
+        None => None,
+        Some(&[byte]) => Some([byte; 16]),
+        Some(_) => return Err("keys takes one byte".into()),
+    };
+    Plug { address: HAN, title, challenge, keys, words, meter }.frames()
 }
 
 /// The bytes of a frame as they stand, but for `CHECK`: the right check of all bytes behind the first.
@@ -58,6 +63,8 @@ struct Plug<'a> {
     address: u8,
     title: Title,
     challenge: Challenge,
+    /// In the place of all keys of H: sixteen bytes of one value.
+    keys: Option<Block>,
     words: Words<'a>,
     meter: &'a Meter,
 }
@@ -125,9 +132,9 @@ impl Plug<'_> {
     fn han(&self) -> Han {
         Han {
             title: self.title,
-            guk: GUK,
-            authentication: AUTHENTICATION,
-            dedicated: DEDICATED,
+            guk: self.keys.unwrap_or(GUK),
+            authentication: self.keys.unwrap_or(AUTHENTICATION),
+            dedicated: self.keys.unwrap_or(DEDICATED),
             challenge: HAN_CHALLENGE,
         }
     }

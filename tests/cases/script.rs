@@ -120,6 +120,7 @@ pub fn digits(bytes: &[u8]) -> String {
 }
 
 /// The script program with the second meter in it.
+#[derive(Clone)]
 pub struct Program {
     state: State,
 }
