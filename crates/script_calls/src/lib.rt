@@ -1,5 +1,6 @@
-// The calls of the script program, a function for each verb: the fields are read to the end of the line, and then the call is made. A line that
-// cannot be read makes no call and leaves the meter as it is.
+// The calls of the script program, a function for each verb: the fields are read to the end of the line, and then the call is
+// made. A line that cannot be read makes no call and leaves the meter as it is. The program `day` makes its owner's calls by
+// the same lines, and its frame calls by `receive`.
 use image::Status;
 use meter::Changed;
 use meter::Meter;
@@ -9,6 +10,7 @@ use script_text::fields::Cursor;
 use script_text::lines;
 use script_text::lists;
 use script_text::verbs;
+use script_text::verbs::Spoken;
 use script_text::verbs::Verb;
 
 // The most bytes of a byte string and of the reply buffer.
@@ -39,18 +41,31 @@ pub fn made(meter: Meter, line: &[u8], is_whole: bool, reply: &mut [u8]) -> Done
     let c = spoken.cursor;
     let verb = spoken.verb;
     match verb {
+        Verb::Frame => frame(meter, line, c, reply),
+        Verb::Image => take_image(meter, line, c),
+        Verb::Dump => dump(meter, line, c, reply),
+        _ => by_owner(meter, line, spoken, 0),
+    }
+}
+
+// The owner's call of a line. A value that it sets is greater by `extra` than the line has it.
+pub fn owned(meter: Meter, line: &[u8], extra: u32) -> Done {
+    by_owner(meter, line, verbs::verb_of(line), extra)
+}
+
+fn by_owner(meter: Meter, line: &[u8], spoken: Spoken, extra: u32) -> Done {
+    let c = spoken.cursor;
+    let verb = spoken.verb;
+    match verb {
         Verb::New => new(meter, line, c),
         Verb::Registers => registers(meter, line, c),
-        Verb::Value => value(meter, line, c),
+        Verb::Value => value(meter, line, c, extra),
         Verb::Columns => columns(meter, line, c),
         Verb::Period => period(meter, line, c),
         Verb::Tick => tick(meter, line, c),
         Verb::P5 => p5(meter, line, c),
         Verb::Power => power(meter, line, c),
-        Verb::Frame => frame(meter, line, c, reply),
-        Verb::Image => take_image(meter, line, c),
-        Verb::Dump => dump(meter, line, c, reply),
-        Verb::Unknown => unread(meter, c),
+        _ => unread(meter, c),
     }
 }
 
@@ -80,15 +95,15 @@ fn registers(meter: Meter, line: &[u8], from: Cursor) -> Done {
     changed(meter.give_registers(items, list.count))
 }
 
-fn value(meter: Meter, line: &[u8], from: Cursor) -> Done {
+fn value(meter: Meter, line: &[u8], from: Cursor, extra: u32) -> Done {
     let named = lists::name(line, from);
-    let number = fields::decimal(line, named.cursor, b' ', u32::MAX);
+    let number = fields::decimal(line, named.cursor, b' ', u32::MAX - extra);
     let end = fields::end(line, number.cursor);
     if !end.good {
         return unread(meter, end);
     }
     let name = named.name;
-    changed(meter.set_value(name, number.value))
+    changed(meter.set_value(name, number.value + extra))
 }
 
 fn columns(meter: Meter, line: &[u8], from: Cursor) -> Done {
@@ -163,7 +178,7 @@ fn frame(meter: Meter, line: &[u8], from: Cursor, reply: &mut [u8]) -> Done {
 }
 
 // The frame call, with so much of the reply buffer lent.
-fn receive(
+pub fn receive(
     meter: Meter,
     frame: &[u8],
     guk: &[u8],
