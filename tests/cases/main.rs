@@ -37,10 +37,7 @@ fn made() -> Result<Vec<Made>, String> {
 fn script() -> Result<[Made; 2], String> {
     let mut exchange = Exchange::begun();
     for path in sources("tests/cases/script")? {
-        let text = fs::read_to_string(&path).map_err(|error| format!("{path}: {error}"))?;
-        for (number, line) in text.lines().enumerate() {
-            exchange.add(line).map_err(|error| format!("{path}:{}: {error}\n    {line}", number + 1))?;
-        }
+        each_line(&path, |line| exchange.add(line))?;
     }
     let [input, output] = exchange.files();
     Ok([Made { path: "crates/script/stdin", content: input }, Made { path: "crates/script/stdout", content: output }])
@@ -49,13 +46,18 @@ fn script() -> Result<[Made; 2], String> {
 /// The play of the program `day`, and what it prints.
 fn day() -> Result<[Made; 2], String> {
     let mut night = Night::begun();
-    let path = "tests/cases/day.txt";
-    let text = fs::read_to_string(path).map_err(|error| format!("{path}: {error}"))?;
-    for (number, line) in text.lines().enumerate() {
-        night.add(line).map_err(|error| format!("{path}:{}: {error}\n    {line}", number + 1))?;
-    }
+    each_line("tests/cases/day.txt", |line| night.add(line))?;
     let [play, output] = night.files();
     Ok([Made { path: "crates/day/src/play.rt", content: play }, Made { path: "crates/day/stdout", content: output }])
+}
+
+/// The lines of a source in turn; an error names the one that it came of.
+fn each_line(path: &str, mut add: impl FnMut(&str) -> Result<(), String>) -> Result<(), String> {
+    let text = fs::read_to_string(path).map_err(|error| format!("{path}: {error}"))?;
+    for (number, line) in text.lines().enumerate() {
+        add(line).map_err(|error| format!("{path}:{}: {error}\n    {line}", number + 1))?;
+    }
+    Ok(())
 }
 
 fn sources(folder: &str) -> Result<Vec<String>, String> {
