@@ -6,7 +6,7 @@ use mathlib.Core.List.{List, [], _∷_}
 use Prim.Native.Nat.{ℕ}
 use lib.ListN.{length}
 use lib.Dec.{eqb, ltb}
-use borrow.Author.Tests.{eqb-true}
+use borrow.Author.Tests.{eqb-true, eq-eqb}
 use Rattle.model.specs.Limits.{longestSent, replyRoom}
 use Rattle.model.specs.Names.{every, given}
 use Rattle.model.specs.Clocks.{validClock}
@@ -14,7 +14,7 @@ use Rattle.model.specs.Periods.{listed, permittedPeriod}
 use Rattle.model.specs.State.{Body, Model}
 use Rattle.model.specs.Soundness.{acceptedRegisters, acceptedColumns, sound}
 use Rattle.model.specs.Objects.{meaning, Service, get, action, Request, Result, granted, denied, methodInvoked, attributeRead, answered, turned, refusalOf}
-use Rattle.model.specs.Calls.{refused, Lent, lentRefusal, Call, frame, giveRegisters, setValue, setColumns, setPeriod, tick, setP5, powerUp, Outcome, Decision, answer, serve, Protocol, decided, act, early, step}
+use Rattle.model.specs.Calls.{refused, Lent, lentRefusal, Call, frame, owner, OwnerCall, ownRefusal, giveRegisters, setValue, setColumns, setPeriod, tick, setP5, powerUp, Outcome, Decision, answer, serve, Protocol, decided, act, early, step}
 use Rattle.model.specs.Archive.{frameNumbers, saidNumber, KnownNumbers, numbers, NumbersAllowed, keepingNumbers, RefusalsKeep}
 use Rattle.model.proofs.ListLaws.{both, every-anywhere}
 
@@ -44,23 +44,30 @@ lent-allowed a =
 
 early-allowed : (c : Call) → listed (early c) (numbers c) ≡ true
 early-allowed (frame a) = lent-allowed a
-early-allowed (giveRegisters rs) = refl
-early-allowed (setValue n v) = refl
-early-allowed (setColumns cs) = refl
-early-allowed (setPeriod d) = refl
-early-allowed (tick t) = refl
-early-allowed (setP5 f) = refl
-early-allowed powerUp = refl
+early-allowed (owner o) = refl
 
 three-allowed : (c : Call) → listed 3 (numbers c) ≡ true
 three-allowed (frame a) = refl
-three-allowed (giveRegisters rs) = refl
-three-allowed (setValue n v) = refl
-three-allowed (setColumns cs) = refl
-three-allowed (setPeriod d) = refl
-three-allowed (tick t) = refl
-three-allowed (setP5 f) = refl
-three-allowed powerUp = refl
+three-allowed (owner o) = refl
+
+-- an owner's call that is refused has its own number
+own-if : (b : Bool) (k : ℕ) → listed (cond b 0 k) (0 ∷ 3 ∷ k ∷ []) ≡ true
+own-if true k = refl
+own-if false k = rw (eq-eqb k k refl) (last (eqb 0 k) (eqb 3 k))
+  where
+    last : (a b : Bool) → a || (b || (true || false)) ≡ true
+    last true b = refl
+    last false true = refl
+    last false false = refl
+
+own-allowed : (o : OwnerCall) (m : Model) → listed (ownRefusal o m) (numbers (owner o)) ≡ true
+own-allowed (giveRegisters rs) m = own-if (acceptedRegisters rs) 16
+own-allowed (setValue n v) m = own-if (given n (m .body .store .registers)) 17
+own-allowed (setColumns cs) m = own-if (acceptedColumns (m .body .store .registers) cs) 18
+own-allowed (setPeriod d) m = own-if (permittedPeriod d) 15
+own-allowed (tick t) m = own-if (validClock t) 14
+own-allowed (setP5 f) m = refl
+own-allowed powerUp m = refl
 
 -- the body answers with number 0 or 13
 turned-number : (q : Request) (b : Body) → listed (turned q b .refusal) (0 ∷ 13 ∷ []) ≡ true
@@ -103,13 +110,8 @@ module _ (p : Protocol) (known-numbers : KnownNumbers p) (m : Model) where
   act-allowed : (c : Call) → listed (act p c m .refusal) (numbers c) ≡ true
   unfolding act
   act-allowed (frame a) = inside (decided p ((p .decide) (m .line) a) m .refusal) frameNumbers (numbers (frame a)) refl (decided-number a)
-  act-allowed (giveRegisters rs) = number-if (λ o. listed (o .refusal) (0 ∷ 3 ∷ 16 ∷ []) ≡ true) (acceptedRegisters rs) _ _ (λ _. refl) refl
-  act-allowed (setValue n v) = number-if (λ o. listed (o .refusal) (0 ∷ 3 ∷ 17 ∷ []) ≡ true) (given n (m .body .store .registers)) _ _ (λ _. refl) refl
-  act-allowed (setColumns cs) = number-if (λ o. listed (o .refusal) (0 ∷ 3 ∷ 18 ∷ []) ≡ true) (acceptedColumns (m .body .store .registers) cs) _ _ (λ _. refl) refl
-  act-allowed (setPeriod d) = number-if (λ o. listed (o .refusal) (0 ∷ 3 ∷ 15 ∷ []) ≡ true) (permittedPeriod d) _ _ (λ _. refl) refl
-  act-allowed (tick t) = number-if (λ o. listed (o .refusal) (0 ∷ 3 ∷ 14 ∷ []) ≡ true) (validClock t) _ _ (λ _. refl) refl
-  act-allowed (setP5 f) = refl
-  act-allowed powerUp = refl
+  act-allowed (owner o) =
+      number-if (λ q. listed (q .refusal) (numbers (owner o)) ≡ true) (eqb (ownRefusal o m) 0) _ _ (λ _. refl) (own-allowed o m)
 
   -- a number of the keeping kind, and the outcome is that refusal
   abbrev Keeps : Outcome → Type 0
@@ -118,13 +120,7 @@ module _ (p : Protocol) (known-numbers : KnownNumbers p) (m : Model) where
   act-keeps : (c : Call) → Keeps (act p c m)
   unfolding act
   act-keeps (frame a) = λ e. absurd (apart (decided p ((p .decide) (m .line) a) m .refusal) frameNumbers keepingNumbers refl (decided-number a) e)
-  act-keeps (giveRegisters rs) = number-if Keeps (acceptedRegisters rs) _ _ (λ _ e. absurd (false≢true e)) (λ _. refl)
-  act-keeps (setValue n v) = number-if Keeps (given n (m .body .store .registers)) _ _ (λ _ e. absurd (false≢true e)) (λ _. refl)
-  act-keeps (setColumns cs) = number-if Keeps (acceptedColumns (m .body .store .registers) cs) _ _ (λ _ e. absurd (false≢true e)) (λ _. refl)
-  act-keeps (setPeriod d) = number-if Keeps (permittedPeriod d) _ _ (λ _ e. absurd (false≢true e)) (λ _. refl)
-  act-keeps (tick t) = number-if Keeps (validClock t) _ _ (λ _ e. absurd (false≢true e)) (λ _. refl)
-  act-keeps (setP5 f) = λ e. absurd (false≢true e)
-  act-keeps powerUp = λ e. absurd (false≢true e)
+  act-keeps (owner o) = number-if Keeps (eqb (ownRefusal o m) 0) _ _ (λ _ e. absurd (false≢true e)) (λ _. refl)
 
 pub numbers-allowed : (p : Protocol) → KnownNumbers p → NumbersAllowed p
 unfolding step

@@ -13,7 +13,7 @@ use Rattle.model.specs.declared.Clock.{Clock}
 use Rattle.model.specs.Limits.{maxRows}
 use Rattle.model.specs.Names.{seat, place, given, bearing, blankRegister, withValue, assigned, nameOf}
 use Rattle.model.specs.Clocks.{validClock}
-use Rattle.model.specs.State.{Entry, Store, Body, Model}
+use Rattle.model.specs.State.{Entry, Store, Body, Model, withCells}
 use Rattle.model.specs.Soundness.{SoundnessTest, registerList, columnList, periodPermitted, clockValid, rowClocksValid, rowCount, rowCells, associationKind, associationOnLink, agreedServices, passes, acceptedRegisters, acceptedColumns, soundnessTests, sound}
 use Rattle.model.specs.Objects.{unsigned16, unsigned32, clockData, rowData, rowsData}
 use Rattle.model.specs.Calls.{cellsNow, rowNow}
@@ -40,7 +40,7 @@ module _ (ch : Chosen) where
   pub rows-twice : (cs : List Name) (rs : List Entry) → map (hideEntry ch cs) (map (hideEntry ch cs) rs) ≡ map (hideEntry ch cs) rs
   rows-twice cs [] = refl
   rows-twice cs (r ∷ rs) =
-      ap₂ _∷_ (ap (λ (vs : List ℕ). record { number = r .number; clock = r .clock; cells = vs }) (cells-twice cs (r .cells))) (rows-twice cs rs)
+      ap₂ _∷_ (ap (λ (vs : List ℕ). withCells vs r) (cells-twice cs (r .cells))) (rows-twice cs rs)
 
   pub store-twice : (s : Store) → hideStore ch (hideStore ch s) ≡ hideStore ch s
   store-twice s = λ i. record { registers = registers-twice (s .registers) i; columns = s .columns; rows = rows-twice (s .columns) (s .rows) i }
@@ -102,7 +102,7 @@ module _ (ch : Chosen) where
   -- the rows of a profile
 
   pub row-hidden : (t : Clock) (b : Body) → hideEntry ch (b .store .columns) (rowNow t (hideBody ch b)) ≡ hideEntry ch (b .store .columns) (rowNow t b)
-  row-hidden t b = ap (λ (vs : List ℕ). record { number = rowNow t b .number; clock = t; cells = vs }) (cells-now (b .store .registers) (b .store .columns))
+  row-hidden t b = ap (λ (vs : List ℕ). withCells vs (rowNow t b)) (cells-now (b .store .registers) (b .store .columns))
 
   pub rows-pushed : (k : ℕ) (cs : List Name) (r₁ r₂ : Entry) (rs : List Entry) → hideEntry ch cs r₁ ≡ hideEntry ch cs r₂
       → map (hideEntry ch cs) (take k (r₁ ∷ map (hideEntry ch cs) rs)) ≡ map (hideEntry ch cs) (take k (r₂ ∷ rs))
@@ -121,7 +121,7 @@ module _ (ch : Chosen) where
   pub rows-kept : (cs : List Name) (rs : List Entry) → anyChosen ch cs ≡ false → map (hideEntry ch cs) rs ≡ rs
   rows-kept cs [] e = refl
   rows-kept cs (r ∷ rs) e =
-      ap₂ _∷_ (ap (λ (vs : List ℕ). record { number = r .number; clock = r .clock; cells = vs }) (cells-kept cs (r .cells) e)) (rows-kept cs rs e)
+      ap₂ _∷_ (ap (λ (vs : List ℕ). withCells vs r) (cells-kept cs (r .cells) e)) (rows-kept cs rs e)
 
   -- lengths
 

@@ -11,11 +11,11 @@ use borrow.Author.Tests.{eqb-true}
 use Rattle.model.specs.declared.Name.{Name}
 use Rattle.model.specs.declared.Register.{Register}
 use Rattle.model.specs.Names.{sameName, given, withValue, blankRegister}
-use Rattle.model.specs.State.{Line, Entry, Store, Model, withBody, withStore}
+use Rattle.model.specs.State.{Line, Entry, Store, Model, withBody, withStore, withCells}
 use Rattle.model.specs.Objects.{profileNamed, Service, get, action, Request}
-use Rattle.model.specs.Calls.{Lent, Call, frame, giveRegisters, setValue, setColumns, setPeriod, tick, setP5, powerUp, Wrap, Decision, answer, serve, Protocol, KeepsLengths, trace}
-use Rattle.model.specs.Demand3.{Chosen, hide, hideRegister, hideCells, hideEntry, hidden, hiddenCall, anyChosen, asksChosen, decidesRead, reads}
-use Rattle.model.specs.Honesty.{replaceRegisters, replaceCells, replaceRows, ReplacedAlike, valueAt, cellAt, blankEntry, AlikeReplaced, ReplacedCallAlike, nothing, NothingChosen, UnchosenProfile, ChosenRead, ReadsAreChosen}
+use Rattle.model.specs.Calls.{Lent, Call, frame, owner, OwnerCall, giveRegisters, setValue, setColumns, setPeriod, tick, setP5, powerUp, Wrap, Decision, answer, serve, Protocol, KeepsLengths, trace}
+use Rattle.model.specs.Demand3.{Chosen, hide, hideRegister, hideCells, hideEntry, hidden, hiddenOwner, hiddenCall, anyChosen, asksChosen, decidesRead, reads}
+use Rattle.model.specs.Honesty.{replaceRegisters, replaceCells, replaceRows, ReplacedAlike, valueAt, cellAt, blankEntry, AlikeReplaced, replacedOwner, ReplacedCallAlike, nothing, NothingChosen, UnchosenProfile, ChosenRead, ReadsAreChosen}
 use Rattle.model.proofs.ListLaws.{both}
 use Rattle.model.proofs.HidingLaws.{rows-kept}
 use Rattle.model.proofs.Noninterference.{same-call}
@@ -40,7 +40,7 @@ module _ (ch : Chosen) where
   rows-replaced : (w : ℕ → ℕ → ℕ) (i : ℕ) (cs : List Name) (rs : List Entry) → map (hideEntry ch cs) rs ≡ map (hideEntry ch cs) (replaceRows ch w i cs rs)
   rows-replaced w i cs [] = refl
   rows-replaced w i cs (r ∷ rs) =
-      ap₂ _∷_ (ap (λ (xs : List ℕ). record { number = r .number; clock = r .clock; cells = xs }) (cells-replaced (w i) 0 cs (r .cells)))
+      ap₂ _∷_ (ap (λ (xs : List ℕ). withCells xs r) (cells-replaced (w i) 0 cs (r .cells)))
       (rows-replaced w (suc i) cs rs)
 
 pub replaced-alike : ReplacedAlike
@@ -49,15 +49,18 @@ replaced-alike ch v w m =
     (registers-replaced ch v 0 (m .body .store .registers))
     (rows-replaced ch w 0 (m .body .store .columns) (m .body .store .rows))
 
+owner-replaced : (ch : Chosen) (v : ℕ → ℕ) (o : OwnerCall) → hiddenOwner ch o ≡ hiddenOwner ch (replacedOwner ch v o)
+owner-replaced ch v (giveRegisters rs) = ap giveRegisters (registers-replaced ch v 0 rs)
+owner-replaced ch v (setValue n x) = ap (setValue n) (hide-replaced (ch n) (v 0) x)
+owner-replaced ch v (setColumns cs) = refl
+owner-replaced ch v (setPeriod d) = refl
+owner-replaced ch v (tick t) = refl
+owner-replaced ch v (setP5 f) = refl
+owner-replaced ch v powerUp = refl
+
 pub replaced-call-alike : ReplacedCallAlike
 replaced-call-alike ch v (frame a) = refl
-replaced-call-alike ch v (giveRegisters rs) = ap giveRegisters (registers-replaced ch v 0 rs)
-replaced-call-alike ch v (setValue n x) = ap (setValue n) (hide-replaced (ch n) (v 0) x)
-replaced-call-alike ch v (setColumns cs) = refl
-replaced-call-alike ch v (setPeriod d) = refl
-replaced-call-alike ch v (tick t) = refl
-replaced-call-alike ch v (setP5 f) = refl
-replaced-call-alike ch v powerUp = refl
+replaced-call-alike ch v (owner o) = ap owner (owner-replaced ch v o)
 
 -- Nothing else is alike.
 
@@ -103,7 +106,7 @@ module _ (ch : Chosen) where
       (cells-back v (suc j) cs xs ys (tail-eq-of-cons-eq e) (λ k. ap v (suc-add j k ∙ sym (add-suc j k)) ∙ h (suc k)))
 
   row-back : (v : ℕ → ℕ) (cs : List Name) (r s : Entry) → hideEntry ch cs r ≡ hideEntry ch cs s → ((k : ℕ) → v k ≡ getD (s .cells) k 0)
-      → s ≡ record { number = r .number; clock = r .clock; cells = replaceCells ch v 0 cs (r .cells) }
+      → s ≡ withCells (replaceCells ch v 0 cs (r .cells)) r
   row-back v cs r s e h =
       λ i. record {
         number = ap (λ (x : Entry). x .number) (sym e) i;
@@ -155,15 +158,18 @@ nothing-hidden m =
     (registers-shown (m .body .store .registers))
     (rows-kept nothing (m .body .store .columns) (m .body .store .rows) (none-chosen (m .body .store .columns)))
 
+owner-shown : (o : OwnerCall) → hiddenOwner nothing o ≡ o
+owner-shown (giveRegisters rs) = ap giveRegisters (registers-shown rs)
+owner-shown (setValue n v) = refl
+owner-shown (setColumns cs) = refl
+owner-shown (setPeriod d) = refl
+owner-shown (tick t) = refl
+owner-shown (setP5 f) = refl
+owner-shown powerUp = refl
+
 call-shown : (c : Call) → hiddenCall nothing c ≡ c
 call-shown (frame a) = refl
-call-shown (giveRegisters rs) = ap giveRegisters (registers-shown rs)
-call-shown (setValue n v) = refl
-call-shown (setColumns cs) = refl
-call-shown (setPeriod d) = refl
-call-shown (tick t) = refl
-call-shown (setP5 f) = refl
-call-shown powerUp = refl
+call-shown (owner o) = ap owner (owner-shown o)
 
 calls-shown : (cs : List Call) → map (hiddenCall nothing) cs ≡ cs
 calls-shown [] = refl
@@ -222,10 +228,4 @@ reads-are-chosen p ch (frame a) m h = go ((p .decide) (m .line) a) refl h
     go : (d : Decision) → (p .decide) (m .line) a ≡ d → decidesRead ch d (m .body .store) ≡ true → ChosenRead p ch (frame a) m
     go (answer s) e x = absurd (false≢true x)
     go (serve q w l) e x = asked-read p ch a m q w l (q .service) e refl x
-reads-are-chosen p ch (giveRegisters rs) m h = absurd (false≢true h)
-reads-are-chosen p ch (setValue n v) m h = absurd (false≢true h)
-reads-are-chosen p ch (setColumns cs) m h = absurd (false≢true h)
-reads-are-chosen p ch (setPeriod d) m h = absurd (false≢true h)
-reads-are-chosen p ch (tick t) m h = absurd (false≢true h)
-reads-are-chosen p ch (setP5 f) m h = absurd (false≢true h)
-reads-are-chosen p ch powerUp m h = absurd (false≢true h)
+reads-are-chosen p ch (owner o) m h = absurd (false≢true h)

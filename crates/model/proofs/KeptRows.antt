@@ -18,7 +18,7 @@ use Rattle.model.specs.Periods.{permittedPeriod, captureDue}
 use Rattle.model.specs.State.{Line, Body, Model, withBody, withClock}
 use Rattle.model.specs.Soundness.{acceptedRegisters, acceptedColumns, sound}
 use Rattle.model.specs.Objects.{Content, simple, rows, recordNumber, register, Meaning, known, unknown, meaning, Service, get, action, Request, Result, granted, denied, refusalOf, methodInvoked, afterMethod, afterAction, answered, turned, profileNamed}
-use Rattle.model.specs.Calls.{Lent, Call, frame, giveRegisters, setValue, setColumns, setPeriod, tick, setP5, powerUp, Outcome, done, Wrap, Decision, answer, serve, Protocol, decided, rowNow, captured, ticked, act, early, step}
+use Rattle.model.specs.Calls.{Lent, Call, frame, owner, OwnerCall, ownRefusal, obeyed, giveRegisters, setValue, setColumns, setPeriod, tick, setP5, powerUp, Outcome, done, Wrap, Decision, answer, serve, Protocol, decided, rowNow, captured, ticked, act, early, step}
 use Rattle.model.specs.Archive.{OneMore, DueTicks, onProfile, resets, mayEmpty, RowsAfter, stay, grow, empty, RowsStay}
 use Rattle.model.proofs.ObjectLaws.{Tells, Means, meaning-tells}
 
@@ -76,24 +76,28 @@ module _ (p : Protocol) (m : Model) where
       (q .name) (m .body .store .registers) (meaning-tells (q .client) (q .name) (m .body .store .registers))
       (λ h. ap resets d ∙ ap (onProfile (q .name)) e ∙ h) z f
 
+  owner-rows : (o : OwnerCall) → RowsAfter p (owner o) m (done (obeyed o m))
+  unfolding ticked
+  owner-rows (giveRegisters rs) = empty refl refl refl
+  owner-rows (setValue n v) = stay refl
+  owner-rows (setColumns cs) = empty refl refl refl
+  owner-rows (setPeriod d) = stay refl
+  owner-rows (tick t) = go (captureDue (m .body .period) t) refl
+    where
+      go : (b : Bool) → captureDue (m .body .period) t ≡ b → RowsAfter p (owner (tick t)) m (done (withBody (withClock t (cond b (captured t (m .body)) (m .body))) m))
+      go true e = grow t refl e (let h = captured-more t (m .body) in record { rows = h .rows; kept = h .kept; number = h .number })
+      go false e = stay refl
+  owner-rows (setP5 f) = stay refl
+  owner-rows powerUp = empty refl refl refl
+
   act-rows : (c : Call) → RowsAfter p c m (act p c m)
-  unfolding act turned ticked
+  unfolding act turned
   act-rows (frame a) = go ((p .decide) (m .line) a) refl
     where
       go : (d : Decision) → (p .decide) (m .line) a ≡ d → RowsAfter p (frame a) m (decided p d m)
       go (answer s) e = stay refl
       go (serve q w l) e = served-rows a q (q .service) w l (decided p (serve q w l) m) e refl refl refl
-  act-rows (giveRegisters rs) = rows-if (giveRegisters rs) (acceptedRegisters rs) _ _ (λ _. empty refl refl refl) (λ _. stay refl)
-  act-rows (setValue n v) = rows-if (setValue n v) (given n (m .body .store .registers)) _ _ (λ _. stay refl) (λ _. stay refl)
-  act-rows (setColumns cs) = rows-if (setColumns cs) (acceptedColumns (m .body .store .registers) cs) _ _ (λ _. empty refl refl refl) (λ _. stay refl)
-  act-rows (setPeriod d) = rows-if (setPeriod d) (permittedPeriod d) _ _ (λ _. stay refl) (λ _. stay refl)
-  act-rows (tick t) = rows-if (tick t) (validClock t) _ _ (λ _. go (captureDue (m .body .period) t) refl) (λ _. stay refl)
-    where
-      go : (b : Bool) → captureDue (m .body .period) t ≡ b → RowsAfter p (tick t) m (done (withBody (withClock t (cond b (captured t (m .body)) (m .body))) m))
-      go true e = grow t refl e (let h = captured-more t (m .body) in record { rows = h .rows; kept = h .kept; number = h .number })
-      go false e = stay refl
-  act-rows (setP5 f) = stay refl
-  act-rows powerUp = empty refl refl refl
+  act-rows (owner o) = rows-if (owner o) (eqb (ownRefusal o m) 0) _ _ (λ _. owner-rows o) (λ _. stay refl)
 
 pub rows-stay : (p : Protocol) → RowsStay p
 unfolding step

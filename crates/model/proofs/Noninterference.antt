@@ -7,6 +7,7 @@ use Prim.Native.Nat.{ℕ}
 use lib.ListN.{length, take, drop}
 use lib.Seq.{take-at}
 use lib.Dec.{eqb}
+use borrow.Author.Tests.{eqb-true}
 use Rattle.model.specs.declared.Name.{Name}
 use Rattle.model.specs.declared.Clock.{Clock}
 use Rattle.model.specs.declared.Register.{Register}
@@ -17,8 +18,9 @@ use Rattle.model.specs.Clocks.{validClock}
 use Rattle.model.specs.Periods.{permittedPeriod, captureDue}
 use Rattle.model.specs.Soundness.{acceptedRegisters, acceptedColumns, sound}
 use Rattle.model.specs.Objects.{rows, Service, get, action}
-use Rattle.model.specs.Calls.{Call, frame, giveRegisters, setValue, setColumns, setPeriod, tick, setP5, powerUp, Outcome, done, refused, Decision, answer, serve, Protocol, KeepsLengths, decided, captured, ticked, rowNow, nextNumber, withRegisters, withAssigned, withColumns, poweredLine, act, early, step, trace}
-use Rattle.model.specs.Demand3.{Chosen, hide, hideRegister, hideBody, hidden, hiddenCall, Alike, AlikeCalls, asksChosen, decidesRead, reads, SameOutcome, SameOutcomes, TraceDemand3, Handed, Gave, seen, Run, Demand3}
+use Rattle.model.specs.Calls.{Call, frame, owner, OwnerCall, ownRefusal, obeyed, giveRegisters, setValue, setColumns, setPeriod, tick, setP5, powerUp, Outcome, done, refused, Decision, answer, serve, Protocol, KeepsLengths, decided, captured, ticked, rowNow, nextNumber, withRegisters, withAssigned, withColumns, poweredLine, act, early, step, trace}
+use Rattle.model.specs.Demand3.{Chosen, hide, hideRegister, hideBody, hidden, hiddenOwner, hiddenCall, Alike, AlikeCalls, asksChosen, decidesRead, reads, SameOutcome, SameOutcomes, TraceDemand3, Handed, Gave, seen, Run, Demand3}
+use Rattle.model.proofs.ListLaws.{passed}
 use Rattle.model.proofs.HidingLaws.{registers-twice, sound-hidden, given-hidden, assigned-hidden, accepted-hidden, columns-hidden, row-hidden, rows-pushed, rows-twice}
 use Rattle.model.proofs.AnswerLaws.{turned-close, body-twice, emptied-twice}
 
@@ -32,8 +34,8 @@ module _ (p : Protocol) (keeps : KeepsLengths p) (ch : Chosen) where
     sent : ((may ≡ true) × (o .refusal ≡ 0) → ⊥) → o .sent ≡ q .sent
     next : hidden ch (o .next) ≡ hidden ch (q .next)
 
-  close-done : {may : Bool} (m : Model) {a b : Body} → hideBody ch a ≡ hideBody ch b → Close may (done (withBody a m)) (done (withBody b m))
-  close-done m e = record { refusal = refl; size = refl; sent = λ _. refl; next = ap (λ (b : Body). withBody b m) e }
+  close-done : {may : Bool} (m n : Model) → hidden ch m ≡ hidden ch n → Close may (done m) (done n)
+  close-done m n e = record { refusal = refl; size = refl; sent = λ _. refl; next = e }
 
   close-refused : {may : Bool} (k : ℕ) (m n : Model) → hidden ch m ≡ hidden ch n → Close may (refused k m) (refused k n)
   close-refused k m n e = record { refusal = refl; size = refl; sent = λ _. refl; next = e }
@@ -85,29 +87,30 @@ module _ (p : Protocol) (keeps : KeepsLengths p) (ch : Chosen) where
       go true = captured-close t b
       go false = body-twice ch b
 
+  own-refusal-hidden : (o : OwnerCall) (m : Model) → ownRefusal (hiddenOwner ch o) (hidden ch m) ≡ ownRefusal o m
+  own-refusal-hidden (giveRegisters rs) m = ap (λ (b : Bool). cond b 0 16) (accepted-hidden ch rs)
+  own-refusal-hidden (setValue n v) m = ap (λ (b : Bool). cond b 0 17) (given-hidden ch n (m .body .store .registers))
+  own-refusal-hidden (setColumns cs) m = ap (λ (b : Bool). cond b 0 18) (columns-hidden ch (m .body .store .registers) cs)
+  own-refusal-hidden (setPeriod d) m = refl
+  own-refusal-hidden (tick t) m = refl
+  own-refusal-hidden (setP5 f) m = refl
+  own-refusal-hidden powerUp m = refl
+
+  obeyed-hidden : (o : OwnerCall) (m : Model) → ownRefusal o m ≡ 0 → hidden ch (obeyed o m) ≡ hidden ch (obeyed (hiddenOwner ch o) (hidden ch m))
+  obeyed-hidden (giveRegisters rs) m z = ap (λ (b : Body). withBody b m) (registers-close rs (m .body))
+  obeyed-hidden (setValue n v) m z = ap (λ (b : Body). withBody b m) (assigned-close n v (m .body) (passed (given n (m .body .store .registers)) 17 refl z))
+  obeyed-hidden (setColumns cs) m z = ap (λ (b : Body). withBody b m) (columns-close cs (m .body))
+  obeyed-hidden (setPeriod d) m z = ap (λ (b : Body). withBody b m) (body-twice ch (withPeriod d (m .body)))
+  obeyed-hidden (tick t) m z = ap (λ (b : Body). withBody b m) (ticked-close t (m .body))
+  obeyed-hidden (setP5 f) m z = hidden-twice (withLine (withP5 f (m .line)) m)
+  obeyed-hidden powerUp m z = ap (λ (b : Body). record { line = poweredLine (m .line); body = withNumber 0 b }) (emptied-twice ch (m .body))
+
   act-close : (c : Call) (m : Model) → Close (reads p ch c m) (act p c m) (act p (hiddenCall ch c) (hidden ch m))
   unfolding act
   act-close (frame a) m = decided-close ((p .decide) (m .line) a) m
-  act-close (giveRegisters rs) m =
-      rw (accepted-hidden ch rs)
-      (close-if (acceptedRegisters rs) (λ _. close-done m (registers-close rs (m .body))) (close-refused 16 m (hidden ch m) (hidden-twice m)))
-  act-close (setValue n v) m =
-      rw (given-hidden ch n (m .body .store .registers))
-      (close-if (given n (m .body .store .registers)) (λ g. close-done m (assigned-close n v (m .body) g)) (close-refused 17 m (hidden ch m) (hidden-twice m)))
-  act-close (setColumns cs) m =
-      rw (columns-hidden ch (m .body .store .registers) cs)
-      (close-if (acceptedColumns (m .body .store .registers) cs) (λ _. close-done m (columns-close cs (m .body))) (close-refused 18 m (hidden ch m) (hidden-twice m)))
-  act-close (setPeriod d) m =
-      close-if (permittedPeriod d) (λ _. close-done m (body-twice ch (withPeriod d (m .body)))) (close-refused 15 m (hidden ch m) (hidden-twice m))
-  act-close (tick t) m = close-if (validClock t) (λ _. close-done m (ticked-close t (m .body))) (close-refused 14 m (hidden ch m) (hidden-twice m))
-  act-close (setP5 f) m = record { refusal = refl; size = refl; sent = λ _. refl; next = hidden-twice (withLine (withP5 f (m .line)) m) }
-  act-close powerUp m =
-      record {
-        refusal = refl;
-        size = refl;
-        sent = λ _. refl;
-        next = ap (λ (b : Body). record { line = poweredLine (m .line); body = withNumber 0 b }) (emptied-twice ch (m .body));
-      }
+  act-close (owner o) m =
+      rw (own-refusal-hidden o m)
+      (close-if (eqb (ownRefusal o m) 0) (λ z. close-done _ _ (obeyed-hidden o m (eqb-true (ownRefusal o m) 0 z))) (close-refused (ownRefusal o m) m (hidden ch m) (hidden-twice m)))
 
   reads-hidden : (c : Call) (m : Model) → reads p ch (hiddenCall ch c) (hidden ch m) ≡ reads p ch c m
   reads-hidden (frame a) m = go ((p .decide) (m .line) a)
@@ -119,23 +122,11 @@ module _ (p : Protocol) (keeps : KeepsLengths p) (ch : Chosen) where
           asks : (v : Service) → asksChosen ch (q .name) v (hidden ch m .body .store) ≡ asksChosen ch (q .name) v (m .body .store)
           asks (get a s) = simp (given-hidden ch (q .name) (m .body .store .registers))
           asks (action k v) = refl
-  reads-hidden (giveRegisters rs) m = refl
-  reads-hidden (setValue n v) m = refl
-  reads-hidden (setColumns cs) m = refl
-  reads-hidden (setPeriod d) m = refl
-  reads-hidden (tick t) m = refl
-  reads-hidden (setP5 f) m = refl
-  reads-hidden powerUp m = refl
+  reads-hidden (owner o) m = refl
 
   early-hidden : (c : Call) → early (hiddenCall ch c) ≡ early c
   early-hidden (frame a) = refl
-  early-hidden (giveRegisters rs) = refl
-  early-hidden (setValue n v) = refl
-  early-hidden (setColumns cs) = refl
-  early-hidden (setPeriod d) = refl
-  early-hidden (tick t) = refl
-  early-hidden (setP5 f) = refl
-  early-hidden powerUp = refl
+  early-hidden (owner o) = refl
 
   -- Two runs, one call. That both meters are sound or both are not is a premise: in the base it follows from alikeness.
   module _ (c₁ c₂ : Call) (m₁ m₂ : Model) (e : hiddenCall ch c₁ ≡ hiddenCall ch c₂) (l : Alike ch m₁ m₂) where

@@ -8,7 +8,7 @@ use Rattle.model.specs.Periods.{permittedPeriod, captureDue}
 use Rattle.model.specs.State.{Line, Body, Model, withBody, withClock}
 use Rattle.model.specs.Soundness.{acceptedRegisters, acceptedColumns, sound}
 use Rattle.model.specs.Objects.{Content, simple, rows, recordNumber, register, Meaning, known, unknown, meaning, Service, get, action, Request, Result, granted, denied, refusalOf, methodInvoked, afterMethod, afterAction, answered, turned}
-use Rattle.model.specs.Calls.{Lent, Call, frame, giveRegisters, setValue, setColumns, setPeriod, tick, setP5, powerUp, Outcome, done, Wrap, Decision, answer, serve, Protocol, decided, captured, ticked, act, early, step}
+use Rattle.model.specs.Calls.{Lent, Call, frame, owner, OwnerCall, ownRefusal, obeyed, giveRegisters, setValue, setColumns, setPeriod, tick, setP5, powerUp, Outcome, done, Wrap, Decision, answer, serve, Protocol, decided, captured, ticked, act, early, step}
 use Rattle.model.specs.Archive.{isAction, acts, mayReset, NumberAfter, same, next, reset, NumberStays}
 
 module _ (p : Protocol) (m : Model) where
@@ -33,25 +33,29 @@ module _ (p : Protocol) (m : Model) where
   served-number a q (get k s) u w l o d e z f = same (ap (λ (b : Body). b .number) f)
   served-number a q (action k v) u w l o d e z f = action-number (frame a) o u (methodInvoked q k v u) (ap acts d ∙ ap isAction e) z f
 
+  owner-number : (o : OwnerCall) → NumberAfter p (owner o) m (done (obeyed o m))
+  unfolding ticked captured
+  owner-number (giveRegisters rs) = same refl
+  owner-number (setValue n v) = same refl
+  owner-number (setColumns cs) = same refl
+  owner-number (setPeriod d) = same refl
+  owner-number (tick t) = go (captureDue (m .body .period) t) refl
+    where
+      go : (b : Bool) → captureDue (m .body .period) t ≡ b → NumberAfter p (owner (tick t)) m (done (withBody (withClock t (cond b (captured t (m .body)) (m .body))) m))
+      go true e = next t refl e refl
+      go false e = same refl
+  owner-number (setP5 f) = same refl
+  owner-number powerUp = reset refl refl refl
+
   act-number : (c : Call) → NumberAfter p c m (act p c m)
-  unfolding act turned ticked captured
+  unfolding act turned
   act-number (frame a) = go ((p .decide) (m .line) a) refl
     where
       go : (d : Decision) → (p .decide) (m .line) a ≡ d → NumberAfter p (frame a) m (decided p d m)
       go (answer s) e = same refl
       go (serve q w l) e =
           served-number a q (q .service) (meaning (q .client) (q .name) (m .body .store .registers)) w l (decided p (serve q w l) m) e refl refl refl
-  act-number (giveRegisters rs) = number-if (giveRegisters rs) (acceptedRegisters rs) _ _ (λ _. same refl) (λ _. same refl)
-  act-number (setValue n v) = number-if (setValue n v) (given n (m .body .store .registers)) _ _ (λ _. same refl) (λ _. same refl)
-  act-number (setColumns cs) = number-if (setColumns cs) (acceptedColumns (m .body .store .registers) cs) _ _ (λ _. same refl) (λ _. same refl)
-  act-number (setPeriod d) = number-if (setPeriod d) (permittedPeriod d) _ _ (λ _. same refl) (λ _. same refl)
-  act-number (tick t) = number-if (tick t) (validClock t) _ _ (λ _. go (captureDue (m .body .period) t) refl) (λ _. same refl)
-    where
-      go : (b : Bool) → captureDue (m .body .period) t ≡ b → NumberAfter p (tick t) m (done (withBody (withClock t (cond b (captured t (m .body)) (m .body))) m))
-      go true e = next t refl e refl
-      go false e = same refl
-  act-number (setP5 f) = same refl
-  act-number powerUp = reset refl refl refl
+  act-number (owner o) = number-if (owner o) (eqb (ownRefusal o m) 0) _ _ (λ _. owner-number o) (λ _. same refl)
 
 pub number-stays : (p : Protocol) → NumberStays p
 unfolding step

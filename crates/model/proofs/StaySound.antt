@@ -7,7 +7,7 @@ use native.Mathlib.Omega.{arith}
 use lib.ListN.{length, take, length-map, length-set, length-take}
 use lib.Seq.{map-set-same}
 use lib.Dec.{eqb, leb}
-use borrow.Author.Tests.{le-leb, eq-eqb}
+use borrow.Author.Tests.{eqb-true, le-leb, eq-eqb}
 use Rattle.model.specs.declared.Name.{Name}
 use Rattle.model.specs.declared.Clock.{Clock}
 use Rattle.model.specs.declared.Register.{Register}
@@ -18,9 +18,9 @@ use Rattle.model.specs.Periods.{periods, permittedPeriod, captureDue}
 use Rattle.model.specs.State.{Entry, Body, Model, withLine, withBody, withStore, withRows, withClock, withNumber, withPeriod, withP5, newMeter}
 use Rattle.model.specs.Soundness.{SoundnessTest, registerList, columnList, periodPermitted, clockValid, rowClocksValid, rowCount, rowCells, associationKind, associationOnLink, agreedServices, passes, acceptedRegisters, acceptedColumns, kindsKnown, linksStand, servicesOffered, sound}
 use Rattle.model.specs.Objects.{Content, simple, rows, recordNumber, register, Meaning, known, unknown, meaning, Service, get, action, Request, Result, granted, denied, methodInvoked, afterMethod, afterAction, answered, turned}
-use Rattle.model.specs.Calls.{Call, frame, giveRegisters, setValue, setColumns, setPeriod, tick, setP5, powerUp, Outcome, Decision, answer, serve, Protocol, decided, rowNow, captured, ticked, withRegisters, withAssigned, withColumns, act, early, step}
+use Rattle.model.specs.Calls.{Call, frame, owner, OwnerCall, ownRefusal, obeyed, giveRegisters, setValue, setColumns, setPeriod, tick, setP5, powerUp, Outcome, Decision, answer, serve, Protocol, decided, rowNow, captured, ticked, withRegisters, withAssigned, withColumns, act, early, step}
 use Rattle.model.specs.Archive.{NewMeterSound, soundLine, lineAfter, KeepsLines, StaysSound}
-use Rattle.model.proofs.ListLaws.{both, both-true, every-anywhere}
+use Rattle.model.proofs.ListLaws.{both, both-true, every-anywhere, passed}
 use Rattle.model.proofs.SoundnessLaws.{sound-passes, sound-from}
 
 pub new-meter-sound : NewMeterSound
@@ -190,6 +190,15 @@ module _ (p : Protocol) (keeps : KeepsLines p) (m : Model) (s : sound m ≡ true
   body-sound : (b : Body) → GoodBody b → sound (withBody b m) ≡ true
   body-sound b g = sound-of (withBody b m) g (good-line m s)
 
+  owner-sound : (o : OwnerCall) → ownRefusal o m ≡ 0 → sound (obeyed o m) ≡ true
+  owner-sound (giveRegisters rs) z = body-sound _ (good-registers rs (m .body) (passed (acceptedRegisters rs) 16 refl z) (good-body m s))
+  owner-sound (setValue n v) z = body-sound _ (good-assigned n v (m .body) (good-body m s))
+  owner-sound (setColumns cs) z = body-sound _ (good-columns cs (m .body) (passed (acceptedColumns (m .body .store .registers) cs) 18 refl z) (good-body m s))
+  owner-sound (setPeriod d) z = body-sound _ (good-period d (m .body) (passed (permittedPeriod d) 15 refl z) (good-body m s))
+  owner-sound (tick t) z = body-sound _ (good-ticked t (m .body) (passed (validClock t) 14 refl z) (good-body m s))
+  owner-sound (setP5 f) z = sound-of (withLine (withP5 f (m .line)) m) (good-body m s) (good-line m s)
+  owner-sound powerUp z = sound-of _ (good-number 0 _ (good-emptied (m .body) (good-body m s))) refl
+
   act-sound : (c : Call) → sound (act p c m .next) ≡ true
   unfolding act
   act-sound (frame a) = go ((p .decide) (m .line) a) (keeps (m .line) a (good-line m s))
@@ -197,13 +206,7 @@ module _ (p : Protocol) (keeps : KeepsLines p) (m : Model) (s : sound m ≡ true
       go : (d : Decision) → soundLine (lineAfter d) ≡ true → sound (decided p d m .next) ≡ true
       go (answer x) e = sound-of (withLine (x .line) m) (good-body m s) e
       go (serve q w l) e = sound-of _ (good-turned q (m .body) (good-body m s)) e
-  act-sound (giveRegisters rs) = sound-if (acceptedRegisters rs) _ _ (λ a. body-sound _ (good-registers rs (m .body) a (good-body m s))) s
-  act-sound (setValue n v) = sound-if (given n (m .body .store .registers)) _ _ (λ _. body-sound _ (good-assigned n v (m .body) (good-body m s))) s
-  act-sound (setColumns cs) = sound-if (acceptedColumns (m .body .store .registers) cs) _ _ (λ a. body-sound _ (good-columns cs (m .body) a (good-body m s))) s
-  act-sound (setPeriod d) = sound-if (permittedPeriod d) _ _ (λ a. body-sound _ (good-period d (m .body) a (good-body m s))) s
-  act-sound (tick t) = sound-if (validClock t) _ _ (λ a. body-sound _ (good-ticked t (m .body) a (good-body m s))) s
-  act-sound (setP5 f) = sound-of (withLine (withP5 f (m .line)) m) (good-body m s) (good-line m s)
-  act-sound powerUp = sound-of _ (good-number 0 _ (good-emptied (m .body) (good-body m s))) refl
+  act-sound (owner o) = sound-if (eqb (ownRefusal o m) 0) _ _ (λ z. owner-sound o (eqb-true (ownRefusal o m) 0 z)) s
 
 pub stays-sound : (p : Protocol) → KeepsLines p → StaysSound p
 unfolding step

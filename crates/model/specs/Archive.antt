@@ -15,7 +15,7 @@ use Rattle.model.specs.Periods.{listed, captureDue}
 use Rattle.model.specs.State.{Line, Entry, Body, Model, newMeter}
 use Rattle.model.specs.Soundness.{kindsKnown, linksStand, servicesOffered, sound}
 use Rattle.model.specs.Objects.{profileNamed, Service, get, action}
-use Rattle.model.specs.Calls.{Lent, Call, frame, giveRegisters, setValue, setColumns, setPeriod, tick, setP5, powerUp, Outcome, refused, Decision, answer, serve, Protocol, step}
+use Rattle.model.specs.Calls.{Lent, Call, frame, owner, OwnerCall, giveRegisters, setValue, setColumns, setPeriod, tick, setP5, powerUp, Outcome, refused, Decision, answer, serve, Protocol, step}
 
 -- Rows.
 
@@ -42,7 +42,7 @@ DueTicks p =
     → sound m ≡ true
     → validClock t ≡ true
     → captureDue (m .body .period) t ≡ true
-    → OneMore t (m .body) (step p (tick t) m .next .body)
+    → OneMore t (m .body) (step p (owner (tick t)) m .next .body)
 
 -- The calls that may empty the rows: give registers, set columns, power-up, and an ACTION on the profile.
 
@@ -54,20 +54,23 @@ abbrev pub resets : Decision → Bool
 resets (answer s) = false
 resets (serve q w l) = onProfile (q .name) (q .service)
 
+abbrev pub ownerEmpties : OwnerCall → Bool
+ownerEmpties (giveRegisters rs) = true
+ownerEmpties (setValue n v) = false
+ownerEmpties (setColumns cs) = true
+ownerEmpties (setPeriod d) = false
+ownerEmpties (tick t) = false
+ownerEmpties (setP5 f) = false
+ownerEmpties powerUp = true
+
 abbrev pub mayEmpty : Protocol → Call → Line → Bool
 mayEmpty p (frame a) l = resets ((p .decide) l a)
-mayEmpty p (giveRegisters rs) l = true
-mayEmpty p (setValue n v) l = false
-mayEmpty p (setColumns cs) l = true
-mayEmpty p (setPeriod d) l = false
-mayEmpty p (tick t) l = false
-mayEmpty p (setP5 f) l = false
-mayEmpty p powerUp l = true
+mayEmpty p (owner o) l = ownerEmpties o
 
 -- what a call leaves of the rows: all of them; or, at a due tick, one more; or none, where an accepted call may empty them
 pub data RowsAfter (p : Protocol) (c : Call) (m : Model) (o : Outcome) : Type 0 where
   stay : rowsOf (o .next) ≡ rowsOf m → RowsAfter p c m o
-  grow : (t : Clock) → c ≡ tick t → captureDue (m .body .period) t ≡ true → OneMore t (m .body) (o .next .body) → RowsAfter p c m o
+  grow : (t : Clock) → c ≡ owner (tick t) → captureDue (m .body .period) t ≡ true → OneMore t (m .body) (o .next .body) → RowsAfter p c m o
   empty : mayEmpty p c (m .line) ≡ true → o .refusal ≡ 0 → rowsOf (o .next) ≡ [] → RowsAfter p c m o
 
 abbrev pub RowsStay : Protocol → Type 0
@@ -83,19 +86,22 @@ abbrev pub acts : Decision → Bool
 acts (answer s) = false
 acts (serve q w l) = isAction (q .service)
 
+abbrev pub ownerResets : OwnerCall → Bool
+ownerResets (giveRegisters rs) = false
+ownerResets (setValue n v) = false
+ownerResets (setColumns cs) = false
+ownerResets (setPeriod d) = false
+ownerResets (tick t) = false
+ownerResets (setP5 f) = false
+ownerResets powerUp = true
+
 abbrev pub mayReset : Protocol → Call → Line → Bool
 mayReset p (frame a) l = acts ((p .decide) l a)
-mayReset p (giveRegisters rs) l = false
-mayReset p (setValue n v) l = false
-mayReset p (setColumns cs) l = false
-mayReset p (setPeriod d) l = false
-mayReset p (tick t) l = false
-mayReset p (setP5 f) l = false
-mayReset p powerUp l = true
+mayReset p (owner o) l = ownerResets o
 
 pub data NumberAfter (p : Protocol) (c : Call) (m : Model) (o : Outcome) : Type 0 where
   same : o .next .body .number ≡ m .body .number → NumberAfter p c m o
-  next : (t : Clock) → c ≡ tick t → captureDue (m .body .period) t ≡ true → o .next .body .number ≡ (m .body .number + 1) % 65536 → NumberAfter p c m o
+  next : (t : Clock) → c ≡ owner (tick t) → captureDue (m .body .period) t ≡ true → o .next .body .number ≡ (m .body .number + 1) % 65536 → NumberAfter p c m o
   reset : mayReset p c (m .line) ≡ true → o .refusal ≡ 0 → o .next .body .number ≡ 0 → NumberAfter p c m o
 
 -- no "invented record number"
@@ -136,15 +142,19 @@ abbrev pub KnownNumbers : Protocol → Type 0
 KnownNumbers p = (l : Line) (a : Lent) → listed (saidNumber ((p .decide) l a)) frameNumbers ≡ true
 
 -- the numbers that document 01 allows a call
+
+abbrev pub ownNumbers : OwnerCall → List ℕ
+ownNumbers (giveRegisters rs) = 16 ∷ []
+ownNumbers (setValue n v) = 17 ∷ []
+ownNumbers (setColumns cs) = 18 ∷ []
+ownNumbers (setPeriod d) = 15 ∷ []
+ownNumbers (tick t) = 14 ∷ []
+ownNumbers (setP5 f) = []
+ownNumbers powerUp = []
+
 abbrev pub numbers : Call → List ℕ
 numbers (frame a) = 1 ∷ 2 ∷ 3 ∷ frameNumbers
-numbers (giveRegisters rs) = 0 ∷ 3 ∷ 16 ∷ []
-numbers (setValue n v) = 0 ∷ 3 ∷ 17 ∷ []
-numbers (setColumns cs) = 0 ∷ 3 ∷ 18 ∷ []
-numbers (setPeriod d) = 0 ∷ 3 ∷ 15 ∷ []
-numbers (tick t) = 0 ∷ 3 ∷ 14 ∷ []
-numbers (setP5 f) = 0 ∷ 3 ∷ []
-numbers powerUp = 0 ∷ 3 ∷ []
+numbers (owner o) = 0 ∷ 3 ∷ ownNumbers o
 
 abbrev pub NumbersAllowed : Protocol → Type 0
 NumbersAllowed p = (c : Call) (m : Model) → listed (step p c m .refusal) (numbers c) ≡ true

@@ -10,9 +10,9 @@ use lib.Dec.{eqb}
 use Rattle.model.specs.declared.Name.{Name}
 use Rattle.model.specs.declared.Register.{Register}
 use Rattle.model.specs.Names.{sameName, given, withValue}
-use Rattle.model.specs.State.{Entry, Store, Body, Model, withBody, withStore}
+use Rattle.model.specs.State.{Entry, Store, Body, Model, withBody, withStore, withCells}
 use Rattle.model.specs.Objects.{profileNamed, Service, get, action}
-use Rattle.model.specs.Calls.{Call, frame, giveRegisters, setValue, setColumns, setPeriod, tick, setP5, powerUp, Outcome, Decision, answer, serve, Protocol, step, trace}
+use Rattle.model.specs.Calls.{Call, frame, owner, OwnerCall, giveRegisters, setValue, setColumns, setPeriod, tick, setP5, powerUp, Outcome, Decision, answer, serve, Protocol, step, trace}
 
 -- "Registers are chosen by name, whenever given."
 abbrev pub Chosen : Type 0
@@ -35,7 +35,7 @@ hideCells ch [] (v ∷ vs) = v ∷ vs
 hideCells ch (c ∷ cs) (v ∷ vs) = hide (ch c) v ∷ hideCells ch cs vs
 
 abbrev pub hideEntry : Chosen → List Name → Entry → Entry
-hideEntry ch cs r = record { number = r .number; clock = r .clock; cells = hideCells ch cs (r .cells) }
+hideEntry ch cs r = withCells (hideCells ch cs (r .cells)) r
 
 abbrev pub hideStore : Chosen → Store → Store
 hideStore ch s =
@@ -57,15 +57,19 @@ abbrev pub Alike : Chosen → Model → Model → Type 0
 Alike ch m₁ m₂ = hidden ch m₁ ≡ hidden ch m₂
 
 -- a call with 0 for the values that it gives or sets for chosen registers
+
+abbrev pub hiddenOwner : Chosen → OwnerCall → OwnerCall
+hiddenOwner ch (giveRegisters rs) = giveRegisters (map (hideRegister ch) rs)
+hiddenOwner ch (setValue n v) = setValue n (hide (ch n) v)
+hiddenOwner ch (setColumns cs) = setColumns cs
+hiddenOwner ch (setPeriod d) = setPeriod d
+hiddenOwner ch (tick t) = tick t
+hiddenOwner ch (setP5 f) = setP5 f
+hiddenOwner ch powerUp = powerUp
+
 abbrev pub hiddenCall : Chosen → Call → Call
 hiddenCall ch (frame a) = frame a
-hiddenCall ch (giveRegisters rs) = giveRegisters (map (hideRegister ch) rs)
-hiddenCall ch (setValue n v) = setValue n (hide (ch n) v)
-hiddenCall ch (setColumns cs) = setColumns cs
-hiddenCall ch (setPeriod d) = setPeriod d
-hiddenCall ch (tick t) = tick t
-hiddenCall ch (setP5 f) = setP5 f
-hiddenCall ch powerUp = powerUp
+hiddenCall ch (owner o) = owner (hiddenOwner ch o)
 
 -- "arguments are equal in both runs but for values given or set for chosen registers"
 abbrev pub AlikeCalls : Chosen → List Call → List Call → Type 0
@@ -93,13 +97,7 @@ decidesRead ch (serve q w l) st = asksChosen ch (q .name) (q .service) st
 -- the call is such a frame; no other call reads
 abbrev pub reads : Protocol → Chosen → Call → Model → Bool
 reads p ch (frame a) m = decidesRead ch ((p .decide) (m .line) a) (m .body .store)
-reads p ch (giveRegisters rs) m = false
-reads p ch (setValue n v) m = false
-reads p ch (setColumns cs) m = false
-reads p ch (setPeriod d) m = false
-reads p ch (tick t) m = false
-reads p ch (setP5 f) m = false
-reads p ch powerUp m = false
+reads p ch (owner o) m = false
 
 -- "a read is granted when its frame call answers 0"
 abbrev pub GrantedRead : Protocol → Chosen → Call → Model → Outcome → Type 0

@@ -9,9 +9,9 @@ use Rattle.model.specs.declared.Name.{Name}
 use Rattle.model.specs.declared.Register.{Register}
 use lib.ListN.{getD}
 use Rattle.model.specs.Names.{sameName, given, withValue, blankRegister}
-use Rattle.model.specs.State.{Line, Entry, Store, Model, withBody, withStore}
+use Rattle.model.specs.State.{Line, Entry, Store, Model, withBody, withStore, withCells}
 use Rattle.model.specs.Objects.{profileNamed, Selection, get, Request}
-use Rattle.model.specs.Calls.{Lent, Call, frame, giveRegisters, setValue, setColumns, setPeriod, tick, setP5, powerUp, Wrap, serve, Protocol, step, trace}
+use Rattle.model.specs.Calls.{Lent, Call, frame, owner, OwnerCall, giveRegisters, setValue, setColumns, setPeriod, tick, setP5, powerUp, Wrap, serve, Protocol, step, trace}
 use Rattle.model.specs.Demand3.{Chosen, hiddenCall, Alike, AlikeCalls, anyChosen, reads}
 
 -- The chosen values and the cells recorded from them, replaced by arbitrary numbers: v gives one for each register's place,
@@ -29,7 +29,7 @@ replaceCells ch v j (c ∷ cs) (x ∷ xs) = cond (ch c) (v j) x ∷ replaceCells
 abbrev pub replaceRows : Chosen → (w : ℕ → ℕ → ℕ) → ℕ → List Name → List Entry → List Entry
 replaceRows ch w i cs [] = []
 replaceRows ch w i cs (r ∷ rs) =
-    record { number = r .number; clock = r .clock; cells = replaceCells ch (w i) 0 cs (r .cells) } ∷ replaceRows ch w (suc i) cs rs
+    withCells (replaceCells ch (w i) 0 cs (r .cells)) r ∷ replaceRows ch w (suc i) cs rs
 
 abbrev pub replaceStore : Chosen → (v : ℕ → ℕ) → (w : ℕ → ℕ → ℕ) → Store → Store
 replaceStore ch v w s =
@@ -62,15 +62,18 @@ AlikeReplaced = (ch : Chosen) (m₁ m₂ : Model) → Alike ch m₁ m₂ → m�
 
 -- Calls that differ in arbitrary numbers given or set for chosen registers are alike.
 
+abbrev pub replacedOwner : Chosen → (v : ℕ → ℕ) → OwnerCall → OwnerCall
+replacedOwner ch v (giveRegisters rs) = giveRegisters (replaceRegisters ch v 0 rs)
+replacedOwner ch v (setValue n x) = setValue n (cond (ch n) (v 0) x)
+replacedOwner ch v (setColumns cs) = setColumns cs
+replacedOwner ch v (setPeriod d) = setPeriod d
+replacedOwner ch v (tick t) = tick t
+replacedOwner ch v (setP5 f) = setP5 f
+replacedOwner ch v powerUp = powerUp
+
 abbrev pub replacedCall : Chosen → (v : ℕ → ℕ) → Call → Call
 replacedCall ch v (frame a) = frame a
-replacedCall ch v (giveRegisters rs) = giveRegisters (replaceRegisters ch v 0 rs)
-replacedCall ch v (setValue n x) = setValue n (cond (ch n) (v 0) x)
-replacedCall ch v (setColumns cs) = setColumns cs
-replacedCall ch v (setPeriod d) = setPeriod d
-replacedCall ch v (tick t) = tick t
-replacedCall ch v (setP5 f) = setP5 f
-replacedCall ch v powerUp = powerUp
+replacedCall ch v (owner o) = owner (replacedOwner ch v o)
 
 abbrev pub ReplacedCallAlike : Type 0
 ReplacedCallAlike = (ch : Chosen) (v : ℕ → ℕ) (c : Call) → hiddenCall ch c ≡ hiddenCall ch (replacedCall ch v c)

@@ -87,6 +87,9 @@ withNumber n b = record { device = b .device; clock = b .clock; period = b .peri
 abbrev pub withRows : List Entry → Store → Store
 withRows rs s = record { registers = s .registers; columns = s .columns; rows = rs }
 
+abbrev pub withCells : List ℕ → Entry → Entry
+withCells vs r = record { number = r .number; clock = r .clock; cells = vs }
+
 abbrev pub withP5 : Bool → Line → Line
 withP5 f l = record { title = l .title; verification = l .verification; han = l .han; p5 = f }
 
