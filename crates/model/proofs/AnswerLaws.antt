@@ -13,7 +13,7 @@ use Rattle.model.specs.declared.Client.the-variants.{Verification, Han}
 use Rattle.model.specs.declared.Register.{Register}
 use Rattle.model.specs.Limits.{longestSent, dataRoom}
 use Rattle.model.specs.Names.{sameName, given, bearing}
-use Rattle.model.specs.State.{Entry, Store, Body, withStore, withNumber, withRows}
+use Rattle.model.specs.State.{Entry, Store, Body, withStore, withNumber, keeping, withRows}
 use Rattle.model.specs.Objects.{Simple, device, Content, simple, rows, recordNumber, register, Object, Own, clock, time, date, ownObjects, deviceObject, profileNamed, Meaning, known, unknown, amongOwn, amongRegisters, registerObject, meaning, serves, Selection, all, selected, Parameter, Service, get, action, Request, Result, granted, denied, unsigned32, nameData, simpleData, rowsData, valueData, scalerData, attributeData, Picked, these, wrong, entrySelector, isEntryDescriptor, fromEntry, toEntry, fromColumn, toColumn, entriesWrong, lastEntry, rowsBetween, entries, describedEntries, selectedRows, takesSelector, fitting, shown, attributeRead, methodInvoked, afterMethod, afterAction, Turn, turned, answered, refusalOf, getAnswer, actionAnswer}
 use Rattle.model.specs.Demand3.{Chosen, hide, hideRegister, hideEntry, hideStore, hideBody, asksChosen}
 use Rattle.model.proofs.ListLaws.{map-take, map-drop}
@@ -204,7 +204,7 @@ module _ (ch : Chosen) where
 
   pub emptied-twice : (b : Body) → hideBody ch (withStore (withRows [] (b .store)) b) ≡ hideBody ch (withStore (withRows [] (hideStore ch (b .store))) b)
   emptied-twice b =
-      ap (λ (rs : List Register). withStore (record { registers = rs; columns = b .store .columns; rows = [] }) b)
+      ap (λ (rs : List Register). withStore (keeping rs (b .store .columns) []) b)
       (sym (registers-twice ch (b .store .registers)))
 
   method-after : (x : Content) (b : Body) → hideBody ch (afterMethod x b) ≡ hideBody ch (afterMethod (hideContent x) (hideBody ch b))

@@ -13,12 +13,12 @@ use Rattle.model.specs.declared.Clock.{Clock}
 use Rattle.model.specs.declared.Register.{Register}
 use Rattle.model.specs.Limits.{maxRows}
 use Rattle.model.specs.Names.{given}
-use Rattle.model.specs.State.{Entry, Body, Model, withLine, withBody, withStore, withClock, withPeriod, withNumber, withP5}
+use Rattle.model.specs.State.{Entry, Body, Model, withLine, withBody, withStore, withClock, withPeriod, withNumber, keeping, withP5}
 use Rattle.model.specs.Clocks.{validClock}
 use Rattle.model.specs.Periods.{permittedPeriod, captureDue}
 use Rattle.model.specs.Soundness.{acceptedRegisters, acceptedColumns, sound}
 use Rattle.model.specs.Objects.{rows, Service, get, action}
-use Rattle.model.specs.Calls.{Call, frame, owner, OwnerCall, ownRefusal, obeyed, giveRegisters, setValue, setColumns, setPeriod, tick, setP5, powerUp, Outcome, done, refused, Decision, answer, serve, Protocol, KeepsLengths, decided, captured, ticked, rowNow, nextNumber, withRegisters, withAssigned, withColumns, poweredLine, act, early, step, trace}
+use Rattle.model.specs.Calls.{Call, frame, owner, OwnerCall, ownRefusal, obeyed, giveRegisters, setValue, setColumns, setPeriod, tick, setP5, powerUp, Outcome, done, refused, Decision, answer, serve, Protocol, KeepsLengths, decided, captured, ticked, rowNow, nextNumber, withGiven, withAssigned, withColumns, poweredLine, act, early, step, trace}
 use Rattle.model.specs.Demand3.{Chosen, hide, hideRegister, hideBody, hidden, hiddenOwner, hiddenCall, Alike, AlikeCalls, asksChosen, decidesRead, reads, SameOutcome, SameOutcomes, TraceDemand3, Handed, Gave, seen, Run, Demand3}
 use Rattle.model.proofs.ListLaws.{passed}
 use Rattle.model.proofs.HidingLaws.{registers-twice, sound-hidden, given-hidden, assigned-hidden, accepted-hidden, columns-hidden, row-hidden, rows-pushed, rows-twice}
@@ -58,24 +58,24 @@ module _ (p : Protocol) (keeps : KeepsLengths p) (ch : Chosen) where
         next = ap (λ (b : Body). record { line = l; body = b }) (h .body);
       }
 
-  registers-close : (rs : List Register) (b : Body) → hideBody ch (withRegisters rs b) ≡ hideBody ch (withRegisters (map (hideRegister ch) rs) (hideBody ch b))
+  registers-close : (rs : List Register) (b : Body) → hideBody ch (withGiven rs b) ≡ hideBody ch (withGiven (map (hideRegister ch) rs) (hideBody ch b))
   registers-close rs b =
-      ap (λ (xs : List Register). withStore (record { registers = xs; columns = []; rows = [] }) b) (sym (registers-twice ch rs))
+      ap (λ (xs : List Register). withStore (keeping xs [] []) b) (sym (registers-twice ch rs))
 
   assigned-close : (n : Name) (v : ℕ) (b : Body) → given n (b .store .registers) ≡ true
       → hideBody ch (withAssigned n v b) ≡ hideBody ch (withAssigned n (hide (ch n) v) (hideBody ch b))
   assigned-close n v b g =
-      ap₂ (λ (xs : List Register) (rs : List Entry). withStore (record { registers = xs; columns = b .store .columns; rows = rs }) b)
+      ap₂ (λ (xs : List Register) (rs : List Entry). withStore (keeping xs (b .store .columns) rs) b)
       (sym (assigned-hidden ch n v (b .store .registers) g)) (sym (rows-twice ch (b .store .columns) (b .store .rows)))
 
   columns-close : (cs : List Name) (b : Body) → hideBody ch (withColumns cs b) ≡ hideBody ch (withColumns cs (hideBody ch b))
   columns-close cs b =
-      ap (λ (xs : List Register). withStore (record { registers = xs; columns = cs; rows = [] }) b) (sym (registers-twice ch (b .store .registers)))
+      ap (λ (xs : List Register). withStore (keeping xs cs []) b) (sym (registers-twice ch (b .store .registers)))
 
   captured-close : (t : Clock) (b : Body) → hideBody ch (captured t b) ≡ hideBody ch (captured t (hideBody ch b))
   unfolding captured
   captured-close t b =
-      ap₂ (λ (xs : List Register) (rs : List Entry). withNumber (nextNumber (b .number)) (withStore (record { registers = xs; columns = b .store .columns; rows = rs }) b))
+      ap₂ (λ (xs : List Register) (rs : List Entry). withNumber (nextNumber (b .number)) (withStore (keeping xs (b .store .columns) rs) b))
       (sym (registers-twice ch (b .store .registers)))
       (sym (rows-pushed ch maxRows (b .store .columns) (rowNow t (hideBody ch b)) (rowNow t b) (b .store .rows) (row-hidden ch t b)))
 

@@ -15,10 +15,10 @@ use Rattle.model.specs.Limits.{maxRows, maxRegisters, maxColumns}
 use Rattle.model.specs.Names.{every, given, bearing, blankRegister, place, assigned, nameOf}
 use Rattle.model.specs.Clocks.{validClock, realDate, realTime, fixedBytes, daysIn, februaryDays}
 use Rattle.model.specs.Periods.{periods, permittedPeriod, captureDue}
-use Rattle.model.specs.State.{Entry, Body, Model, withLine, withBody, withStore, withRows, withClock, withNumber, withPeriod, withP5, newMeter}
+use Rattle.model.specs.State.{Entry, Store, Body, Model, withLine, withBody, withStore, keeping, withRows, withRegisters, withClock, withNumber, withPeriod, withP5, newMeter}
 use Rattle.model.specs.Soundness.{SoundnessTest, registerList, columnList, periodPermitted, clockValid, rowClocksValid, rowCount, rowCells, associationKind, associationOnLink, agreedServices, passes, acceptedRegisters, acceptedColumns, kindsKnown, linksStand, servicesOffered, sound}
 use Rattle.model.specs.Objects.{Content, simple, rows, recordNumber, register, Meaning, known, unknown, meaning, Service, get, action, Request, Result, granted, denied, methodInvoked, afterMethod, afterAction, answered, turned}
-use Rattle.model.specs.Calls.{Call, frame, owner, OwnerCall, ownRefusal, obeyed, giveRegisters, setValue, setColumns, setPeriod, tick, setP5, powerUp, Outcome, Decision, answer, serve, Protocol, decided, rowNow, captured, ticked, withRegisters, withAssigned, withColumns, act, early, step}
+use Rattle.model.specs.Calls.{Call, frame, owner, OwnerCall, ownRefusal, obeyed, giveRegisters, setValue, setColumns, setPeriod, tick, setP5, powerUp, Outcome, Decision, answer, serve, Protocol, decided, nextNumber, rowNow, captured, ticked, withGiven, withAssigned, withColumns, act, early, step}
 use Rattle.model.specs.Archive.{NewMeterSound, soundLine, lineAfter, KeepsLines, StaysSound}
 use Rattle.model.proofs.ListLaws.{both, both-true, every-anywhere, passed}
 use Rattle.model.proofs.SoundnessLaws.{sound-passes, sound-from}
@@ -27,27 +27,27 @@ pub new-meter-sound : NewMeterSound
 unfolding sound newMeter acceptedRegisters acceptedColumns validClock realDate realTime fixedBytes daysIn februaryDays periods maxRows maxRegisters maxColumns
 new-meter-sound d t v h = refl
 
--- The tests on the body, and those on the line.
+-- The tests on the store, on the body and on the line.
+
+record GoodStore (s : Store) : Type 0 where
+  registers : acceptedRegisters (s .registers) ≡ true
+  columns : acceptedColumns (s .registers) (s .columns) ≡ true
+  clocks : every (λ i r. validClock (r .clock)) 0 (s .rows) ≡ true
+  count : leb (length (s .rows)) maxRows ≡ true
+  cells : every (λ i r. eqb (length (r .cells)) (length (s .columns))) 0 (s .rows) ≡ true
+
 record GoodBody (b : Body) : Type 0 where
-  registers : acceptedRegisters (b .store .registers) ≡ true
-  columns : acceptedColumns (b .store .registers) (b .store .columns) ≡ true
+  store : GoodStore (b .store)
   period : permittedPeriod (b .period) ≡ true
   clock : validClock (b .clock) ≡ true
-  clocks : every (λ i r. validClock (r .clock)) 0 (b .store .rows) ≡ true
-  count : leb (length (b .store .rows)) maxRows ≡ true
-  cells : every (λ i r. eqb (length (r .cells)) (length (b .store .columns))) 0 (b .store .rows) ≡ true
 
 good-body : (m : Model) → sound m ≡ true → GoodBody (m .body)
 good-body m s =
     let h = sound-passes m s in
     record {
-      registers = h registerList;
-      columns = h columnList;
+      store = record { registers = h registerList; columns = h columnList; clocks = h rowClocksValid; count = h rowCount; cells = h rowCells };
       period = h periodPermitted;
       clock = h clockValid;
-      clocks = h rowClocksValid;
-      count = h rowCount;
-      cells = h rowCells;
     }
 
 good-line : (m : Model) → sound m ≡ true → soundLine (m .line) ≡ true
@@ -60,13 +60,13 @@ sound-of m g e = sound-from m go
     inner = both (kindsKnown (m .line) && linksStand (m .line)) (servicesOffered (m .line)) e .0
 
     go : (t : SoundnessTest) → passes t m ≡ true
-    go registerList = g .registers
-    go columnList = g .columns
+    go registerList = g .store .registers
+    go columnList = g .store .columns
     go periodPermitted = g .period
     go clockValid = g .clock
-    go rowClocksValid = g .clocks
-    go rowCount = g .count
-    go rowCells = g .cells
+    go rowClocksValid = g .store .clocks
+    go rowCount = g .store .count
+    go rowCells = g .store .cells
     go associationKind = both (kindsKnown (m .line)) (linksStand (m .line)) inner .0
     go associationOnLink = both (kindsKnown (m .line)) (linksStand (m .line)) inner .1
     go agreedServices = both (kindsKnown (m .line) && linksStand (m .line)) (servicesOffered (m .line)) e .1
@@ -81,9 +81,13 @@ no-rows : leb 0 maxRows ≡ true
 unfolding maxRows
 no-rows = refl
 
-good-registers : (rs : List Register) (b : Body) → acceptedRegisters rs ≡ true → GoodBody b → GoodBody (withRegisters rs b)
-good-registers rs b a g =
-    record { registers = a; columns = no-columns rs; period = g .period; clock = g .clock; clocks = refl; count = no-rows; cells = refl }
+-- a body whose store is replaced by a good one
+good-store : (s : Store) (b : Body) → GoodStore s → GoodBody b → GoodBody (withStore s b)
+good-store s b h g = record { store = h; period = g .period; clock = g .clock }
+
+-- no rows
+good-none : (rs : List Register) (cs : List Name) → acceptedRegisters rs ≡ true → acceptedColumns rs cs ≡ true → GoodStore (keeping rs cs [])
+good-none rs cs a c = record { registers = a; columns = c; clocks = refl; count = no-rows; cells = refl }
 
 assigned-names : (n : Name) (v : ℕ) (rs : List Register) → map nameOf (assigned n v rs) ≡ map nameOf rs
 assigned-names n v rs = map-set-same nameOf rs (place n rs) _ blankRegister refl
@@ -96,37 +100,27 @@ assigned-columns : (n : Name) (v : ℕ) (rs : List Register) (cs : List Name) �
 unfolding acceptedColumns
 assigned-columns n v rs cs = simp (assigned-names n v rs)
 
-good-assigned : (n : Name) (v : ℕ) (b : Body) → GoodBody b → GoodBody (withAssigned n v b)
-good-assigned n v b g =
+good-assigned : (n : Name) (v : ℕ) (s : Store) → GoodStore s → GoodStore (withRegisters (assigned n v (s .registers)) s)
+good-assigned n v s g =
     record {
-      registers = assigned-accepted n v (b .store .registers) ∙ g .registers;
-      columns = assigned-columns n v (b .store .registers) (b .store .columns) ∙ g .columns;
-      period = g .period;
-      clock = g .clock;
+      registers = assigned-accepted n v (s .registers) ∙ g .registers;
+      columns = assigned-columns n v (s .registers) (s .columns) ∙ g .columns;
       clocks = g .clocks;
       count = g .count;
       cells = g .cells;
     }
 
-good-columns : (cs : List Name) (b : Body) → acceptedColumns (b .store .registers) cs ≡ true → GoodBody b → GoodBody (withColumns cs b)
-good-columns cs b a g =
-    record { registers = g .registers; columns = a; period = g .period; clock = g .clock; clocks = refl; count = no-rows; cells = refl }
-
 good-period : (d : ℕ) (b : Body) → permittedPeriod d ≡ true → GoodBody b → GoodBody (withPeriod d b)
-good-period d b a g =
-    record { registers = g .registers; columns = g .columns; period = a; clock = g .clock; clocks = g .clocks; count = g .count; cells = g .cells }
+good-period d b a g = record { store = g .store; period = a; clock = g .clock }
 
 good-clock : (t : Clock) (b : Body) → validClock t ≡ true → GoodBody b → GoodBody (withClock t b)
-good-clock t b a g =
-    record { registers = g .registers; columns = g .columns; period = g .period; clock = a; clocks = g .clocks; count = g .count; cells = g .cells }
-
-good-emptied : (b : Body) → GoodBody b → GoodBody (withStore (withRows [] (b .store)) b)
-good-emptied b g =
-    record { registers = g .registers; columns = g .columns; period = g .period; clock = g .clock; clocks = refl; count = no-rows; cells = refl }
+good-clock t b a g = record { store = g .store; period = g .period; clock = a }
 
 good-number : (n : ℕ) (b : Body) → GoodBody b → GoodBody (withNumber n b)
-good-number n b g =
-    record { registers = g .registers; columns = g .columns; period = g .period; clock = g .clock; clocks = g .clocks; count = g .count; cells = g .cells }
+good-number n b g = record { store = g .store; period = g .period; clock = g .clock }
+
+good-emptied : (b : Body) → GoodBody b → GoodBody (withStore (withRows [] (b .store)) b)
+good-emptied b g = good-store _ b (good-none (b .store .registers) (b .store .columns) (g .store .registers) (g .store .columns)) g
 
 every-take : {A : Type 0} (f : A → Bool) (i k : ℕ) (xs : List A) → every (λ j x. f x) i xs ≡ true → every (λ j x. f x) i (take k xs) ≡ true
 every-take f i zero xs e = refl
@@ -140,20 +134,22 @@ every-pushed f k x xs h e = every-take f 0 k (x ∷ xs) (both-true h (every-anyw
 few : {A : Type 0} (k : ℕ) (xs : List A) → length (take k xs) ≤ k
 few k xs = simp length-take (omega arith)
 
-good-captured : (t : Clock) (b : Body) → validClock t ≡ true → GoodBody b → GoodBody (captured t b)
-unfolding captured
-good-captured t b a g =
+good-pushed : (r : Entry) (s : Store) → validClock (r .clock) ≡ true → length (r .cells) ≡ length (s .columns) → GoodStore s
+    → GoodStore (withRows (take maxRows (r ∷ s .rows)) s)
+good-pushed r s a e g =
     record {
       registers = g .registers;
       columns = g .columns;
-      period = g .period;
-      clock = g .clock;
-      clocks = every-pushed (λ (r : Entry). validClock (r .clock)) maxRows (rowNow t b) (b .store .rows) a (g .clocks);
-      count = le-leb _ _ (few maxRows (rowNow t b ∷ b .store .rows));
-      cells =
-          every-pushed (λ (r : Entry). eqb (length (r .cells)) (length (b .store .columns))) maxRows (rowNow t b) (b .store .rows)
-          (eq-eqb _ _ (length-map (b .store .columns) (λ c. bearing c (b .store .registers) .value))) (g .cells);
+      clocks = every-pushed (λ (r : Entry). validClock (r .clock)) maxRows r (s .rows) a (g .clocks);
+      count = le-leb _ _ (few maxRows (r ∷ s .rows));
+      cells = every-pushed (λ (r : Entry). eqb (length (r .cells)) (length (s .columns))) maxRows r (s .rows) (eq-eqb _ _ e) (g .cells);
     }
+
+good-captured : (t : Clock) (b : Body) → validClock t ≡ true → GoodBody b → GoodBody (captured t b)
+unfolding captured
+good-captured t b a g =
+    good-number (nextNumber (b .number)) _
+    (good-store _ b (good-pushed (rowNow t b) (b .store) a (length-map (b .store .columns) (λ c. bearing c (b .store .registers) .value)) (g .store)) g)
 
 good-ticked : (t : Clock) (b : Body) → validClock t ≡ true → GoodBody b → GoodBody (ticked t b)
 unfolding ticked
@@ -191,9 +187,9 @@ module _ (p : Protocol) (keeps : KeepsLines p) (m : Model) (s : sound m ≡ true
   body-sound b g = sound-of (withBody b m) g (good-line m s)
 
   owner-sound : (o : OwnerCall) → ownRefusal o m ≡ 0 → sound (obeyed o m) ≡ true
-  owner-sound (giveRegisters rs) z = body-sound _ (good-registers rs (m .body) (passed (acceptedRegisters rs) 16 refl z) (good-body m s))
-  owner-sound (setValue n v) z = body-sound _ (good-assigned n v (m .body) (good-body m s))
-  owner-sound (setColumns cs) z = body-sound _ (good-columns cs (m .body) (passed (acceptedColumns (m .body .store .registers) cs) 18 refl z) (good-body m s))
+  owner-sound (giveRegisters rs) z = body-sound _ (good-store _ (m .body) (good-none rs [] (passed (acceptedRegisters rs) 16 refl z) (no-columns rs)) (good-body m s))
+  owner-sound (setValue n v) z = body-sound _ (good-store _ (m .body) (good-assigned n v (m .body .store) (good-body m s .store)) (good-body m s))
+  owner-sound (setColumns cs) z = body-sound _ (good-store _ (m .body) (good-none (m .body .store .registers) cs (good-body m s .store .registers) (passed (acceptedColumns (m .body .store .registers) cs) 18 refl z)) (good-body m s))
   owner-sound (setPeriod d) z = body-sound _ (good-period d (m .body) (passed (permittedPeriod d) 15 refl z) (good-body m s))
   owner-sound (tick t) z = body-sound _ (good-ticked t (m .body) (passed (validClock t) 14 refl z) (good-body m s))
   owner-sound (setP5 f) z = sound-of (withLine (withP5 f (m .line)) m) (good-body m s) (good-line m s)

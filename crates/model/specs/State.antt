@@ -84,8 +84,15 @@ withPeriod p b = record { device = b .device; clock = b .clock; period = p; numb
 abbrev pub withNumber : ℕ → Body → Body
 withNumber n b = record { device = b .device; clock = b .clock; period = b .period; number = n; store = b .store }
 
+-- the store that keeps these rows
+abbrev pub keeping : List Register → List Name → List Entry → Store
+keeping xs cs rs = record { registers = xs; columns = cs; rows = rs }
+
 abbrev pub withRows : List Entry → Store → Store
-withRows rs s = record { registers = s .registers; columns = s .columns; rows = rs }
+withRows rs s = keeping (s .registers) (s .columns) rs
+
+abbrev pub withRegisters : List Register → Store → Store
+withRegisters xs s = record { registers = xs; columns = s .columns; rows = s .rows }
 
 abbrev pub withCells : List ℕ → Entry → Entry
 withCells vs r = record { number = r .number; clock = r .clock; cells = vs }
@@ -109,5 +116,5 @@ unfoldable pub newMeter : (device title verification han : List ℕ) → Model
 newMeter d t v h =
     record {
       line = record { title = t; verification = newPeer v; han = record { peer = newPeer h; counters = noCounters }; p5 = false };
-      body = record { device = d; clock = newClock; period = 60; number = 0; store = record { registers = []; columns = []; rows = [] } };
+      body = record { device = d; clock = newClock; period = 60; number = 0; store = keeping [] [] [] };
     }
