@@ -10,7 +10,7 @@ use Rattle.model.specs.Names.{given}
 use Rattle.model.specs.Clocks.{validClock}
 use Rattle.model.specs.Periods.{permittedPeriod}
 use Rattle.model.specs.Soundness.{registerList, columnList, periodPermitted, clockValid, rowClocksValid, rowCount, rowCells, associationKind, associationOnLink, agreedServices, passes, acceptedRegisters, acceptedColumns, sound}
-use Rattle.model.specs.Calls.{Call, giveRegisters, setValue, setColumns, setPeriod, tick, setP5, powerUp, refused, done, Protocol, ticked, poweredLine, act, early, step}
+use Rattle.model.specs.Calls.{OwnerCall, owner, giveRegisters, setValue, setColumns, setPeriod, tick, setP5, powerUp, refused, done, Protocol, ticked, poweredLine, act, early, step}
 use Rattle.model.proofs.ListLaws.{both}
 use Rattle.store.specs.declared.Registers.{Registers}
 use Rattle.store.specs.declared.Columns.{Columns}
@@ -45,16 +45,16 @@ fits m s = sound-fits (m .body) (both (bodySound (bodyOf (m .body))) (lineSound 
 
 -- How a call ends.
 
-module _ (c : Call) (m : Meter) (own : early c ≡ 0) where
+module _ (c : OwnerCall) (m : Meter) (own : early (owner c) ≡ 0) where
   pub unsound : sound (view m) ≡ false → Owned c m (changed 3 m)
   unfolding step
   unsound s = record { promised = λ p. rw (own, s) (record { refusal = refl; count = refl; meter = refl; room = refl }); kept = λ _. refl }
 
-  pub refuses : (n : ℕ) → sound (view m) ≡ true → ((p : Protocol) → act p c (view m) ≡ refused n (view m)) → Owned c m (changed n m)
+  pub refuses : (n : ℕ) → sound (view m) ≡ true → ((p : Protocol) → act p (owner c) (view m) ≡ refused n (view m)) → Owned c m (changed n m)
   unfolding step
   refuses n s h = record { promised = λ p. rw (own, s, h p) (record { refusal = refl; count = refl; meter = refl; room = refl }); kept = λ _. refl }
 
-  pub accepts : (next : Meter) → sound (view m) ≡ true → ((p : Protocol) → act p c (view m) ≡ done (view next)) → Owned c m (changed 0 next)
+  pub accepts : (next : Meter) → sound (view m) ≡ true → ((p : Protocol) → act p (owner c) (view m) ≡ done (view next)) → Owned c m (changed 0 next)
   unfolding step
   accepts next s h = record { promised = λ p. rw (own, s, h p) (record { refusal = refl; count = refl; meter = refl; room = refl }); kept = λ k. absurd (k refl) }
 
@@ -68,58 +68,58 @@ withStores r c w b =
     record { device = b .device; clock = b .clock; period = b .period; number = b .number; registers = r; columns = c; rows = w }
 
 module _ (p : Protocol) (m : Meter) where
-  pub registers-refused : (s : Registers) → acceptedRegisters (registersOf s) ≡ false → act p (giveRegisters (registersOf s)) (view m) ≡ refused 16 (view m)
+  pub registers-refused : (s : Registers) → acceptedRegisters (registersOf s) ≡ false → act p (owner (giveRegisters (registersOf s))) (view m) ≡ refused 16 (view m)
   unfolding act
   registers-refused s h = rw h
 
   pub registers-given : (s : Registers) (c : Columns) (w : Rows) → acceptedRegisters (registersOf s) ≡ true → columnsOf c ≡ [] → entriesOf w ≡ []
-      → act p (giveRegisters (registersOf s)) (view m) ≡ done (view (withBodyState (withStores s c w (m .body)) m))
+      → act p (owner (giveRegisters (registersOf s))) (view m) ≡ done (view (withBodyState (withStores s c w (m .body)) m))
   unfolding act view bodyOf
   registers-given s c w h e f = rw (h, e, f)
 
-  pub value-refused : (n : Name) (v : ℕ) → given n (registersOf (m .body .registers)) ≡ false → act p (setValue n v) (view m) ≡ refused 17 (view m)
+  pub value-refused : (n : Name) (v : ℕ) → given n (registersOf (m .body .registers)) ≡ false → act p (owner (setValue n v)) (view m) ≡ refused 17 (view m)
   unfolding act view bodyOf
   value-refused n v h = rw h
 
   pub value-set : (n : Name) (v : ℕ) (a : Assigned) → Assigns (m .body .registers) n v a → a .found ≡ true
-      → act p (setValue n v) (view m) ≡ done (view (withBodyState (withStores (a .registers) (m .body .columns) (m .body .rows) (m .body)) m))
+      → act p (owner (setValue n v)) (view m) ≡ done (view (withBodyState (withStores (a .registers) (m .body .columns) (m .body .rows) (m .body)) m))
   unfolding act view bodyOf
   value-set n v a h t = rw (sym (h .found) ∙ t, h .set t)
 
-  pub columns-refused : (c : Columns) → acceptedColumns (registersOf (m .body .registers)) (columnsOf c) ≡ false → act p (setColumns (columnsOf c)) (view m) ≡ refused 18 (view m)
+  pub columns-refused : (c : Columns) → acceptedColumns (registersOf (m .body .registers)) (columnsOf c) ≡ false → act p (owner (setColumns (columnsOf c))) (view m) ≡ refused 18 (view m)
   unfolding act view bodyOf
   columns-refused c h = rw h
 
   pub columns-set : (c : Columns) (w : Rows) → acceptedColumns (registersOf (m .body .registers)) (columnsOf c) ≡ true → entriesOf w ≡ []
-      → act p (setColumns (columnsOf c)) (view m) ≡ done (view (withBodyState (withStores (m .body .registers) c w (m .body)) m))
+      → act p (owner (setColumns (columnsOf c))) (view m) ≡ done (view (withBodyState (withStores (m .body .registers) c w (m .body)) m))
   unfolding act view bodyOf
   columns-set c w h e = rw (h, e)
 
-  pub period-refused : (d : ℕ) → permittedPeriod d ≡ false → act p (setPeriod d) (view m) ≡ refused 15 (view m)
+  pub period-refused : (d : ℕ) → permittedPeriod d ≡ false → act p (owner (setPeriod d)) (view m) ≡ refused 15 (view m)
   unfolding act
   period-refused d h = rw h
 
   pub period-set : (d : ℕ) → permittedPeriod d ≡ true
-      → act p (setPeriod d) (view m)
+      → act p (owner (setPeriod d)) (view m)
       ≡ done (view (withBodyState (record { device = m .body .device; clock = m .body .clock; period = d; number = m .body .number; registers = m .body .registers; columns = m .body .columns; rows = m .body .rows }) m))
   unfolding act view bodyOf
   period-set d h = rw h
 
-  pub tick-refused : (t : Clock) → validClock t ≡ false → act p (tick t) (view m) ≡ refused 14 (view m)
+  pub tick-refused : (t : Clock) → validClock t ≡ false → act p (owner (tick t)) (view m) ≡ refused 14 (view m)
   unfolding act
   tick-refused t h = rw h
 
-  pub tick-taken : (t : Clock) (b : BodyState) → validClock t ≡ true → bodyOf b ≡ ticked t (bodyOf (m .body)) → act p (tick t) (view m) ≡ done (view (withBodyState b m))
+  pub tick-taken : (t : Clock) (b : BodyState) → validClock t ≡ true → bodyOf b ≡ ticked t (bodyOf (m .body)) → act p (owner (tick t)) (view m) ≡ done (view (withBodyState b m))
   unfolding act view
   tick-taken t b h e = rw (h, e)
 
-  pub p5-set : (f : Bool) → act p (setP5 f) (view m)
+  pub p5-set : (f : Bool) → act p (owner (setP5 f)) (view m)
       ≡ done (view (record { line = record { title = m .line .title; verification = m .line .verification; han = m .line .han; p5 = f }; body = m .body }))
   unfolding act view lineOf
   p5-set f = refl
 
   pub powered : (l : LineState) (w : Rows) → lineOf l ≡ poweredLine (lineOf (m .line)) → entriesOf w ≡ []
-      → act p powerUp (view m)
+      → act p (owner powerUp) (view m)
       ≡ done (view (record { line = l; body = record { device = m .body .device; clock = m .body .clock; period = m .body .period; number = 0; registers = m .body .registers; columns = m .body .columns; rows = w } }))
   unfolding act view bodyOf
   powered l w e f = rw (e, f)

@@ -13,7 +13,7 @@ use Rattle.model.specs.Clocks.{validClock}
 use Rattle.model.specs.Periods.{captureDue}
 use Rattle.model.specs.State.{Model, withBody, withClock}
 use Rattle.model.specs.Soundness.{sound}
-use Rattle.model.specs.Calls.{tick, Outcome, done, Protocol, captured, ticked, act, step}
+use Rattle.model.specs.Calls.{owner, tick, Outcome, done, Protocol, captured, ticked, act, step}
 use Rattle.model.specs.Archive.{rowsOf}
 use Rattle.model.proofs.StaySound.{stays-sound}
 use Rattle.meter.specs.View.{view}
@@ -24,7 +24,7 @@ use Rattle.meter.proofs.OwnedLaws.{silent, silent-keeps, owned-refusal,
 unfoldable pub afterDue : Clock → Model → Model
 afterDue t m = withBody (withClock t (captured t (m .body))) m
 
-pub due-step : (p : Protocol) (t : Clock) (m : Model) → sound m ≡ true → validClock t ≡ true → captureDue (m .body .period) t ≡ true → step p (tick t) m ≡ done (afterDue t m)
+pub due-step : (p : Protocol) (t : Clock) (m : Model) → sound m ≡ true → validClock t ≡ true → captureDue (m .body .period) t ≡ true → step p (owner (tick t)) m ≡ done (afterDue t m)
 unfolding step act ticked afterDue
 due-step p t m s v d = rw (s, v, d)
 
@@ -46,7 +46,7 @@ unfolding captured afterDue
 same-second t m r₁ r₂ s v d o₁ o₂ =
     let step₁ = due-step silent t (view m) s v d in
     let next₁ : view (r₁ .meter) ≡ afterDue t (view m) = owned-meter (tick t) m r₁ o₁ ∙ ap (λ (o : Outcome). o .next) step₁ in
-    let s₁ : sound (view (r₁ .meter)) ≡ true = ap sound (owned-meter (tick t) m r₁ o₁) ∙ stays-sound silent silent-keeps (tick t) (view m) s in
+    let s₁ : sound (view (r₁ .meter)) ≡ true = ap sound (owned-meter (tick t) m r₁ o₁) ∙ stays-sound silent silent-keeps (owner (tick t)) (view m) s in
     let d₁ : captureDue (view (r₁ .meter) .body .period) t ≡ true = ap (λ (n : Model). captureDue (n .body .period) t) next₁ ∙ d in
     let step₂ = due-step silent t (view (r₁ .meter)) s₁ v d₁ in
     let next₂ : view (r₂ .meter) ≡ afterDue t (afterDue t (view m)) =

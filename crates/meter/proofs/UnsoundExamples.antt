@@ -10,7 +10,7 @@ use Rattle.model.specs.Clocks.{validClock, realDate, realTime, fixedBytes, days
 use Rattle.model.specs.Periods.{periods}
 use Rattle.model.specs.Services.{within}
 use Rattle.model.specs.Soundness.{acceptedRegisters, acceptedColumns, sound}
-use Rattle.model.specs.Calls.{Call, early, step}
+use Rattle.model.specs.Calls.{OwnerCall, owner, early, step}
 use Rattle.store.specs.Lists.{registersOf, columnsOf, entriesOf}
 use Rattle.line.specs.View.{lineOf}
 use Rattle.body.specs.View.{bodyOf}
@@ -27,7 +27,7 @@ verdicts-right = record { sound = refl; unsound = refl; sixteen = refl }
 
 -- Refusal 3.
 
-refused-3 : (c : Call) (m : Meter) (r : Changed) → early c ≡ 0 → sound (view m) ≡ false → Owned c m r → r .refusal ≡ 3
+refused-3 : (c : OwnerCall) (m : Meter) (r : Changed) → early (owner c) ≡ 0 → sound (view m) ≡ false → Owned c m r → r .refusal ≡ 3
 unfolding step
 refused-3 c m r own s o = rw (own, s) at (owned-refusal c m r o)
 

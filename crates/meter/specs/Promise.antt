@@ -3,7 +3,7 @@ use mathlib.Core.Path.{_≡_}
 use mathlib.Core.List.{[]}
 use Prim.Native.Nat.{ℕ}
 use Rattle.model.specs.declared.Client.{Client}
-use Rattle.model.specs.Calls.{Call, powerUp, Protocol}
+use Rattle.model.specs.Calls.{OwnerCall, owner, powerUp, Protocol}
 use Rattle.model.specs.Demand3.{Handed, Promised}
 use Rattle.line.specs.Left.{Wiped}
 use Rattle.meter.specs.declared.Meter.{Meter}
@@ -18,8 +18,8 @@ abbrev pub handed : Changed → Handed Meter view
 handed r = record { refusal = r .refusal; count = 0; meter = r .meter; before = []; after = [] }
 
 -- the model's promise, whatever protocol frames go by; and where the call is refused, the very meter comes back
-pub record Owned (c : Call) (m : Meter) (r : Changed) : Type 0 where
-  pub promised : (p : Protocol) → Promised Meter view p c m (handed r)
+pub record Owned (c : OwnerCall) (m : Meter) (r : Changed) : Type 0 where
+  pub promised : (p : Protocol) → Promised Meter view p (owner c) m (handed r)
   pub kept : (r .refusal ≡ 0 → ⊥) → r .meter ≡ m
 
 -- power-up promises more: nothing is left of any association

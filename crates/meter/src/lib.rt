@@ -13,7 +13,7 @@ ghost use mathlib.Core.Path.{_≡_};
 ghost use Rattle.model.specs.Names.{blankName, blankRegister};
 ghost use Rattle.model.specs.State.{newMeter};
 ghost use Rattle.model.specs.Soundness.{sound};
-ghost use Rattle.model.specs.Calls.{Call};
+ghost use Rattle.model.specs.Calls.{OwnerCall};
 ghost use Rattle.store.specs.Lists.{held};
 ghost use Rattle.meter.specs.View.{view};
 ghost use Rattle.meter.specs.Canonical.{Cleared};
@@ -54,7 +54,7 @@ impl Meter {
 
     // Registers are given anew; columns and rows are emptied. Refusals 3 and 16.
     pub fn give_registers(mut self, registers: [Register; 16], count: usize) -> Changed
-        ensures { λ r. ⌜ Owned (Call.giveRegisters (held blankRegister count registers)) self r ⌝ }
+        ensures { λ r. ⌜ Owned (OwnerCall.giveRegisters (held blankRegister count registers)) self r ⌝ }
     {
         let m = self;
         if !is_sound(m) {
@@ -79,7 +79,7 @@ impl Meter {
 
     // The value of a register is set. Refusals 3 and 17.
     pub fn set_value(mut self, name: Name, value: u32) -> Changed
-        ensures { λ r. ⌜ Owned (Call.setValue name value) self r ⌝ }
+        ensures { λ r. ⌜ Owned (OwnerCall.setValue name value) self r ⌝ }
     {
         let m = self;
         if !is_sound(m) {
@@ -100,7 +100,7 @@ impl Meter {
 
     // Columns are set by the names of given registers; rows are emptied. Refusals 3 and 18.
     pub fn set_columns(mut self, columns: [Name; 16], count: usize) -> Changed
-        ensures { λ r. ⌜ Owned (Call.setColumns (held blankName count columns)) self r ⌝ }
+        ensures { λ r. ⌜ Owned (OwnerCall.setColumns (held blankName count columns)) self r ⌝ }
     {
         let m = self;
         if !is_sound(m) {
@@ -124,7 +124,7 @@ impl Meter {
 
     // The capture period is set. Refusals 3 and 15.
     pub fn set_period(mut self, period: u32) -> Changed
-        ensures { λ r. ⌜ Owned (Call.setPeriod period) self r ⌝ }
+        ensures { λ r. ⌜ Owned (OwnerCall.setPeriod period) self r ⌝ }
     {
         let m = self;
         if !is_sound(m) {
@@ -141,7 +141,7 @@ impl Meter {
 
     // The clock moves on, and a row is taken where a capture is due. Refusals 3 and 14.
     pub fn tick(mut self, clock: Clock) -> Changed
-        ensures { λ r. ⌜ Owned (Call.tick clock) self r ⌝ }
+        ensures { λ r. ⌜ Owned (OwnerCall.tick clock) self r ⌝ }
     {
         let m = self;
         if !is_sound(m) {
@@ -158,7 +158,7 @@ impl Meter {
 
     // The P5 flag is set or cleared. Refusal 3.
     pub fn set_p5(mut self, held: bool) -> Changed
-        ensures { λ r. ⌜ Owned (Call.setP5 held) self r ⌝ }
+        ensures { λ r. ⌜ Owned (OwnerCall.setP5 held) self r ⌝ }
     {
         let m = self;
         if !is_sound(m) {
