@@ -14,7 +14,7 @@ use Rattle.model.specs.declared.Clock.{Clock}
 use Rattle.model.specs.Periods.{listed}
 use Rattle.model.specs.State.{Model, newMeter}
 use Rattle.model.specs.Soundness.{sound}
-use Rattle.model.specs.Calls.{Lent, Call, frame, Outcome, early, step}
+use Rattle.model.specs.Calls.{Lent, OwnerCall, Call, frame, owner, Outcome, early, step}
 use Rattle.model.specs.Demand3.{Promised}
 use Rattle.model.proofs.StaySound.{new-meter-sound}
 use Rattle.meter.specs.declared.Meter.{Meter}
@@ -115,7 +115,7 @@ accepted-sound c m e = go (eqb (early c) 0) (sound m) refl refl e
     go false false p q e = absurd (true-false (sym (eq-eqb (early c) 0 (rw p at e)) ∙ p))
 
 -- the call that was made on the meter in the buffer
-made : {c : Call} {s e : List ℕ} {n : ℕ} {r : Changed} → Owned c (meterOf s) r → statusOf s ≡ Whole → Ends r s e n → Owns c s e n
+made : {c : OwnerCall} {s e : List ℕ} {n : ℕ} {r : Changed} → Owned c (meterOf s) r → statusOf s ≡ Whole → Ends r s e n → Owns c s e n
 made {c} {s} {e} {n} {r} o w d =
     record {
       promised = record { refusal = number; count = given .count; meter = go n refl .0; room = given .room };
@@ -123,30 +123,30 @@ made {c} {s} {e} {n} {r} o w d =
       again = go n refl .1;
     }
   where
-    given : Promised Meter view p2 c (meterOf s) (handed r)
+    given : Promised Meter view p2 (owner c) (meterOf s) (handed r)
     given = o .promised p2
 
-    number : n ≡ step p2 c (view (meterOf s)) .refusal
+    number : n ≡ step p2 (owner c) (view (meterOf s)) .refusal
     number = d .number ∙ given .refusal
 
     there : n ≡ 0 → Stores (view (r .meter)) e
     there z =
-        let y = p2-stays-sound c (view (meterOf s)) (accepted-sound c (view (meterOf s)) (sym number ∙ z)) in
+        let y = p2-stays-sound (owner c) (view (meterOf s)) (accepted-sound (owner c) (view (meterOf s)) (sym number ∙ z)) in
         d .stored (passed s w .long) (ap sound (given .meter) ∙ y) z
 
-    left : (n ≡ 0 → ⊥) → (view (meterOf e) ≡ after c s) × (statusOf e ≡ Whole)
+    left : (n ≡ 0 → ⊥) → (view (meterOf e) ≡ after (owner c) s) × (statusOf e ≡ Whole)
     left h =
         let k = d .kept h in
         (ap (λ (x : List ℕ). view (meterOf x)) k ∙ ap view (sym (o .kept (λ q. h (d .number ∙ q)))) ∙ given .meter, ap statusOf k ∙ w)
 
-    go : (k : ℕ) → n ≡ k → (view (meterOf e) ≡ after c s) × (statusOf e ≡ Whole)
+    go : (k : ℕ) → n ≡ k → (view (meterOf e) ≡ after (owner c) s) × (statusOf e ≡ Whole)
     go zero q = let t = there q in (t .holds ∙ given .meter, t .status)
     go (suc k) q = left (λ h. omega arith)
 
 own : {good b : Bool} (s : List ℕ) {n : ℕ} → b ≡ good → n ≡ ownRefusal (statusOf s) b → n ≡ ownRefusal (statusOf s) good
 own s g e = e ∙ ap (ownRefusal (statusOf s)) g
 
-module _ {good b : Bool} {c : Call} {s : List ℕ} {n : ℕ} (g : b ≡ good) (e : n ≡ ownRefusal (statusOf s) b) where
+module _ {good b : Bool} {c : OwnerCall} {s : List ℕ} {n : ℕ} (g : b ≡ good) (e : n ≡ ownRefusal (statusOf s) b) where
   pub owner-refused : (n ≡ 0 → ⊥) → OwnerCalled good c s s n
   owner-refused h =
       let q : n ≡ ownRefusal (statusOf s) good = own s g e in

@@ -14,7 +14,7 @@ use Rattle.model.specs.Limits.{maxRegisters, maxColumns}
 use Rattle.model.specs.Names.{blankName, blankRegister}
 use Rattle.model.specs.State.{Model}
 use Rattle.model.specs.Soundness.{acceptedRegisters, acceptedColumns}
-use Rattle.model.specs.Calls.{Call, giveRegisters, setColumns, Outcome, Protocol, act, step}
+use Rattle.model.specs.Calls.{OwnerCall, owner, giveRegisters, setColumns, Outcome, Protocol, act, step}
 use Rattle.model.specs.Demand3.{Gave}
 use Rattle.store.specs.Lists.{held}
 use Rattle.store.proofs.HeldLaws.{held-take, held-length}
@@ -28,7 +28,7 @@ use Rattle.image.proofs.ListLaws.{length-list, begun}
 use Rattle.image.proofs.Sizes.{sizes}
 
 -- calls that come to the same have the same promise
-same-owned : {c d : Call} {m : Meter} {r : Changed} → ((p : Protocol) → step p c (view m) ≡ step p d (view m)) → Owned c m r → Owned d m r
+same-owned : {c d : OwnerCall} {m : Meter} {r : Changed} → ((p : Protocol) → step p (owner c) (view m) ≡ step p (owner d) (view m)) → Owned c m r → Owned d m r
 same-owned {r = r} e o =
     record { promised = λ p. subst (λ (x : Outcome). Gave Meter view x (handed r)) (e p) (o .promised p); kept = o .kept }
 
@@ -38,7 +38,7 @@ too-many-registers : (xs : List Register) → 16 < length xs → acceptedRegiste
 unfolding acceptedRegisters maxRegisters
 too-many-registers xs h = rw (lt-leb (length xs) 16 h)
 
-refused-alike : (p : Protocol) (m : Model) (xs ys : List Register) → 16 < length xs → 16 < length ys → step p (giveRegisters xs) m ≡ step p (giveRegisters ys) m
+refused-alike : (p : Protocol) (m : Model) (xs ys : List Register) → 16 < length xs → 16 < length ys → step p (owner (giveRegisters xs)) m ≡ step p (owner (giveRegisters ys)) m
 unfolding step act
 refused-alike p m xs ys h k = rw (too-many-registers xs h, too-many-registers ys k)
 
@@ -57,7 +57,7 @@ too-many-columns : (rs : List Register) (xs : List Name) → 16 < length xs → 
 unfolding acceptedColumns maxColumns
 too-many-columns rs xs h = rw (lt-leb (length xs) 16 h, and-false)
 
-columns-refused-alike : (p : Protocol) (m : Model) (xs ys : List Name) → 16 < length xs → 16 < length ys → step p (setColumns xs) m ≡ step p (setColumns ys) m
+columns-refused-alike : (p : Protocol) (m : Model) (xs ys : List Name) → 16 < length xs → 16 < length ys → step p (owner (setColumns xs)) m ≡ step p (owner (setColumns ys)) m
 unfolding step act
 columns-refused-alike p m xs ys h k =
     rw (too-many-columns (m .body .store .registers) xs h, too-many-columns (m .body .store .registers) ys k)

@@ -11,7 +11,7 @@ use lib.ListN.{length}
 use Rattle.model.specs.Periods.{listed}
 use Rattle.model.specs.State.{Model, newMeter}
 use Rattle.model.specs.Soundness.{sound}
-use Rattle.model.specs.Calls.{Lent, Call, frame, step}
+use Rattle.model.specs.Calls.{Lent, OwnerCall, Call, frame, owner, step}
 use Rattle.model.specs.Demand3.{Handed, Promised}
 use Rattle.meter.specs.declared.Meter.{Meter}
 use Rattle.meter.specs.declared.Changed.{Changed}
@@ -59,13 +59,13 @@ pub record NewCalled (device title verification han : List ℕ) (s e : List ℕ)
 -- Owner's calls.
 
 -- the call on the meter in the buffer: the model's promise; where it is accepted, every byte; and an image is there again
-pub record Owns (c : Call) (s e : List ℕ) (n : ℕ) : Type 0 where
-  pub promised : Promised Meter view p2 c (meterOf s) (handedBack n 0 e [] [])
-  pub bytes : n ≡ 0 → e ≡ imageFor (after c s)
+pub record Owns (c : OwnerCall) (s e : List ℕ) (n : ℕ) : Type 0 where
+  pub promised : Promised Meter view p2 (owner c) (meterOf s) (handedBack n 0 e [] [])
+  pub bytes : n ≡ 0 → e ≡ imageFor (after (owner c) s)
   pub again : statusOf e ≡ Whole
 
 -- `good`: the arguments are taken
-pub record OwnerCalled (good : Bool) (c : Call) (s e : List ℕ) (n : ℕ) : Type 0 where
+pub record OwnerCalled (good : Bool) (c : OwnerCall) (s e : List ℕ) (n : ℕ) : Type 0 where
   pub refused : (ownRefusal (statusOf s) good ≡ 0 → ⊥) → n ≡ ownRefusal (statusOf s) good
   pub called : ownRefusal (statusOf s) good ≡ 0 → Owns c s e n
   pub kept : (n ≡ 0 → ⊥) → e ≡ s

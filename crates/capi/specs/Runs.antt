@@ -6,7 +6,7 @@ use mathlib.Core.Path.{_≡_}
 use mathlib.Core.Bool.{Bool, true, false}
 use mathlib.Core.List.{List, [], _∷_, map}
 use Prim.Native.Nat.{ℕ}
-use Rattle.model.specs.Calls.{Lent, Call, frame}
+use Rattle.model.specs.Calls.{Lent, OwnerCall, Call, frame, owner}
 use Rattle.model.specs.Demand3.{Chosen, Alike, AlikeCalls, SameOutcomes, Handed, seen}
 use Rattle.meter.specs.declared.Meter.{Meter}
 use Rattle.meter.specs.View.{view}
@@ -19,7 +19,7 @@ use Rattle.capi.specs.Promises.{handedBack, OwnerCalled, FrameCalled}
 -- a call of the library, from what the buffer held to what it holds
 pub data Library (s e : List ℕ) : Call → Handed Meter view → Type 0 where
   receives : (a : Lent) (l o : List ℕ) (k n : ℕ) → FrameCalled a s e l o k n → Library s e (frame a) (handedBack n k e l o)
-  owns : (c : Call) (n : ℕ) → OwnerCalled true c s e n → Library s e c (handedBack n 0 e [] [])
+  owns : (c : OwnerCall) (n : ℕ) → OwnerCalled true c s e n → Library s e (owner c) (handedBack n 0 e [] [])
 
 -- a list of calls is made
 pub data LibraryRuns : (state : List ℕ) → List Call → List (Handed Meter view) → Type 0 where
@@ -30,7 +30,7 @@ pub data LibraryRuns : (state : List ℕ) → List Call → List (Handed Meter v
       → LibraryRuns e cs hs
       → LibraryRuns s (c ∷ cs) (h ∷ hs)
   refused :
-      {s : List ℕ} {cs : List Call} {hs : List (Handed Meter view)} (c : Call) (e : List ℕ) (n : ℕ)
+      {s : List ℕ} {cs : List Call} {hs : List (Handed Meter view)} (c : OwnerCall) (e : List ℕ) (n : ℕ)
       → OwnerCalled false c s e n
       → LibraryRuns e cs hs
       → LibraryRuns s cs hs
@@ -38,7 +38,7 @@ pub data LibraryRuns : (state : List ℕ) → List Call → List (Handed Meter v
 -- on a whole image the library refuses for the arguments alone
 abbrev pub RefusedByArguments : Type 0
 RefusedByArguments =
-    (good : Bool) (c : Call) (s e : List ℕ) (n : ℕ)
+    (good : Bool) (c : OwnerCall) (s e : List ℕ) (n : ℕ)
     → statusOf s ≡ Whole
     → good ≡ false
     → OwnerCalled good c s e n

@@ -20,7 +20,7 @@ ghost use mathlib.Core.Path.{_≡_};
 ghost use mathlib.Core.Bool.{true};
 ghost use lib.Dec.{eqb};
 ghost use lib.ListN.{length};
-ghost use Rattle.model.specs.Calls.{Call};
+ghost use Rattle.model.specs.Calls.{OwnerCall};
 ghost use Rattle.image.specs.Layout.{namePart, registerPart};
 ghost use Rattle.image.specs.Lists.{listIn, wholeList};
 ghost use Rattle.image.specs.Image.{imageSize};
@@ -67,7 +67,7 @@ pub extern "C" fn birlimock_new(
 // Registers are given anew. Refusals 101 to 104, 3 and 16.
 #[no_mangle]
 pub extern "C" fn birlimock_give_registers(state: &mut [u8], registers: &[u8]) -> u8
-    ensures { λ r. ⌜ OwnerCalled (wholeList registerPart (now (registers .entry))) (Call.giveRegisters (listIn registerPart (now (registers .entry)))) (now (state .entry)) (now (state .exit)) r ⌝ }
+    ensures { λ r. ⌜ OwnerCalled (wholeList registerPart (now (registers .entry))) (OwnerCall.giveRegisters (listIn registerPart (now (registers .entry)))) (now (state .entry)) (now (state .exit)) r ⌝ }
 {
     let n = refusal_of(state, image::are_registers(registers));
     if n != 0 {
@@ -83,7 +83,7 @@ pub extern "C" fn birlimock_give_registers(state: &mut [u8], registers: &[u8]) -
 // The value of a register is set. Refusals 101 to 104, 3 and 17.
 #[no_mangle]
 pub extern "C" fn birlimock_set_value(state: &mut [u8], name: &[u8], value: u32) -> u8
-    ensures { λ r. ⌜ OwnerCalled (sized 6 (now (name .entry))) (Call.setValue (record { bytes = now (name .entry) }) value) (now (state .entry)) (now (state .exit)) r ⌝ }
+    ensures { λ r. ⌜ OwnerCalled (sized 6 (now (name .entry))) (OwnerCall.setValue (record { bytes = now (name .entry) }) value) (now (state .entry)) (now (state .exit)) r ⌝ }
 {
     let n = refusal_of(state, name.len() == NAME);
     if n != 0 {
@@ -97,7 +97,7 @@ pub extern "C" fn birlimock_set_value(state: &mut [u8], name: &[u8], value: u32)
 // Columns are set. Refusals 101 to 104, 3 and 18.
 #[no_mangle]
 pub extern "C" fn birlimock_set_columns(state: &mut [u8], names: &[u8]) -> u8
-    ensures { λ r. ⌜ OwnerCalled (wholeList namePart (now (names .entry))) (Call.setColumns (listIn namePart (now (names .entry)))) (now (state .entry)) (now (state .exit)) r ⌝ }
+    ensures { λ r. ⌜ OwnerCalled (wholeList namePart (now (names .entry))) (OwnerCall.setColumns (listIn namePart (now (names .entry)))) (now (state .entry)) (now (state .exit)) r ⌝ }
 {
     let n = refusal_of(state, image::are_names(names));
     if n != 0 {
@@ -113,7 +113,7 @@ pub extern "C" fn birlimock_set_columns(state: &mut [u8], names: &[u8]) -> u8
 // The capture period is set. Refusals 101 to 103, 3 and 15.
 #[no_mangle]
 pub extern "C" fn birlimock_set_period(state: &mut [u8], period: u32) -> u8
-    ensures { λ r. ⌜ OwnerCalled true (Call.setPeriod period) (now (state .entry)) (now (state .exit)) r ⌝ }
+    ensures { λ r. ⌜ OwnerCalled true (OwnerCall.setPeriod period) (now (state .entry)) (now (state .exit)) r ⌝ }
 {
     let n = refusal_of(state, true);
     if n != 0 {
@@ -127,7 +127,7 @@ pub extern "C" fn birlimock_set_period(state: &mut [u8], period: u32) -> u8
 // The clock moves on. Refusals 101 to 104, 3 and 14.
 #[no_mangle]
 pub extern "C" fn birlimock_tick(state: &mut [u8], clock: &[u8]) -> u8
-    ensures { λ r. ⌜ OwnerCalled (sized 12 (now (clock .entry))) (Call.tick (record { bytes = now (clock .entry) })) (now (state .entry)) (now (state .exit)) r ⌝ }
+    ensures { λ r. ⌜ OwnerCalled (sized 12 (now (clock .entry))) (OwnerCall.tick (record { bytes = now (clock .entry) })) (now (state .entry)) (now (state .exit)) r ⌝ }
 {
     let n = refusal_of(state, clock.len() == CLOCK);
     if n != 0 {
@@ -141,7 +141,7 @@ pub extern "C" fn birlimock_tick(state: &mut [u8], clock: &[u8]) -> u8
 // The P5 flag is set by 1 and cleared by 0. Refusals 101 to 104 and 3.
 #[no_mangle]
 pub extern "C" fn birlimock_set_p5(state: &mut [u8], held: u32) -> u8
-    ensures { λ r. ⌜ OwnerCalled (isFlag held) (Call.setP5 (eqb held 1)) (now (state .entry)) (now (state .exit)) r ⌝ }
+    ensures { λ r. ⌜ OwnerCalled (isFlag held) (OwnerCall.setP5 (eqb held 1)) (now (state .entry)) (now (state .exit)) r ⌝ }
 {
     let n = refusal_of(state, held < 2);
     if n != 0 {
@@ -155,7 +155,7 @@ pub extern "C" fn birlimock_set_p5(state: &mut [u8], held: u32) -> u8
 // Power-up. Refusals 101 to 103 and 3.
 #[no_mangle]
 pub extern "C" fn birlimock_power_up(state: &mut [u8]) -> u8
-    ensures { λ r. ⌜ OwnerCalled true Call.powerUp (now (state .entry)) (now (state .exit)) r ⌝ }
+    ensures { λ r. ⌜ OwnerCalled true OwnerCall.powerUp (now (state .entry)) (now (state .exit)) r ⌝ }
 {
     let n = refusal_of(state, true);
     if n != 0 {

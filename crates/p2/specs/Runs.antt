@@ -2,7 +2,7 @@
 -- in which each gets the meter that the last one handed back.
 use mathlib.Core.List.{List, [], _∷_, map}
 use Prim.Native.Nat.{ℕ}
-use Rattle.model.specs.Calls.{Lent, Call, frame}
+use Rattle.model.specs.Calls.{Lent, OwnerCall, Call, frame, owner}
 use Rattle.model.specs.Demand3.{Chosen, Alike, AlikeCalls, SameOutcomes, Handed, seen}
 use Rattle.meter.specs.declared.Meter.{Meter}
 use Rattle.meter.specs.declared.Changed.{Changed}
@@ -15,7 +15,7 @@ use Rattle.p2.specs.Promise.{Answered, handed}
 -- what the function behind a call ensures, on this meter, of what it hands back
 pub data Ensured (m : Meter) : Call → Handed Meter view → Type 0 where
   receives : (a : Lent) (before after : List ℕ) (r : Received) → Answered a m before after r → Ensured m (frame a) (handed r before after)
-  owns : (c : Call) (r : Changed) → Owned c m r → Ensured m c (handedByOwner r)
+  owns : (c : OwnerCall) (r : Changed) → Owned c m r → Ensured m (owner c) (handedByOwner r)
 
 -- a list of calls is made
 abbrev pub Runs : Meter → List Call → List (Handed Meter view) → Type 0

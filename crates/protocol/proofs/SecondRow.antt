@@ -20,7 +20,7 @@ use Rattle.model.specs.Services.{within}
 use Rattle.model.specs.State.{Association, none, pending, associated, Line, Entry, Body, Model, withLine, newPeer, noCounters, newClock, newMeter}
 use Rattle.model.specs.Soundness.{acceptedRegisters, acceptedColumns, isNone, associationOnLink, onLink, sound}
 use Rattle.model.specs.Objects.{Request, Turn, granted, rowData, rowsData, attributeData, fitting, attributeRead, getAnswer, turned}
-use Rattle.model.specs.Calls.{Lent, tick, Outcome, captured, serve, decided, step}
+use Rattle.model.specs.Calls.{Lent, owner, tick, Outcome, captured, serve, decided, step}
 use Rattle.model.specs.Archive.{rowsOf}
 use Rattle.model.proofs.LimitFacts.{apdu-room, data-room}
 use Rattle.model.proofs.ListLaws.{both}
@@ -140,7 +140,7 @@ profile-read selective invoke b rs e h = rw (e, le-leb (length (rowsData rs)) (d
 
 module _ (t : Clock) (m : Model) (s : sound m ≡ true) (v : validClock t ≡ true) (d : captureDue (m .body .period) t ≡ true) where
   after-sound : sound (afterDue t m) ≡ true
-  after-sound = ap (λ (o : Outcome). sound (o .next)) (sym (due-step p2 t m s v d)) ∙ p2-stays-sound (tick t) m s
+  after-sound = ap (λ (o : Outcome). sound (o .next)) (sym (due-step p2 t m s v d)) ∙ p2-stays-sound (owner (tick t)) m s
 
   still-due : captureDue (afterDue t m .body .period) t ≡ true
   unfolding afterDue captured
@@ -148,7 +148,7 @@ module _ (t : Clock) (m : Model) (s : sound m ≡ true) (v : validClock t ≡ tr
 
   twice-due : twice t m ≡ afterDue t (afterDue t m)
   twice-due =
-      ap (λ (o : Outcome). step p2 (tick t) (o .next) .next) (due-step p2 t m s v d)
+      ap (λ (o : Outcome). step p2 (owner (tick t)) (o .next) .next) (due-step p2 t m s v d)
       ∙ ap (λ (o : Outcome). o .next) (due-step p2 t (afterDue t m) after-sound v still-due)
 
 both-rows : (t : Clock) (m : Model) → rowsOf (afterDue t (afterDue t m)) ≡ bothRows t m

@@ -19,7 +19,7 @@ use Rattle.model.specs.Services.{offered, common}
 use Rattle.model.specs.State.{pending, associated, Line, Model, Entry, newMeter}
 use Rattle.model.specs.Soundness.{sound}
 use Rattle.model.specs.Objects.{granted, rowsData, getAnswer, turned}
-use Rattle.model.specs.Calls.{Lent, tick, step}
+use Rattle.model.specs.Calls.{Lent, owner, tick, step}
 use Rattle.model.specs.Archive.{rowsOf, dueRow}
 use Rattle.hdlc.specs.declared.Head.{Head}
 use Rattle.hdlc.specs.declared.Frame.the-variants.{LinkUp}
@@ -285,7 +285,7 @@ NextCounter =
 
 -- the meter after two ticks of the same clock
 abbrev pub twice : Clock → Model → Model
-twice t m = step p2 (tick t) (step p2 (tick t) m .next) .next
+twice t m = step p2 (owner (tick t)) (step p2 (owner (tick t)) m .next) .next
 
 -- both rows, and the older ones, of which at most thirteen are kept
 abbrev pub bothRows : Clock → Model → List Entry
