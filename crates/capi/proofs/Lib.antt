@@ -1,3 +1,4 @@
 pub mod GivenLaws
 pub mod CallLaws
+pub mod RecordLaws
 pub mod RunLaws

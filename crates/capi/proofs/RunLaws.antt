@@ -1,11 +1,13 @@
--- Demand 3 of the static library: a run of its calls is a run of the model's promises, on the meters in the buffer.
+-- Demand 3 of the static library: a call that it takes is one of the model's promises, on the meters in the buffers; a call that it
+-- refuses for its arguments is refused in both runs, and leaves both buffers.
 use mathlib.Core.Path.{_≡_, refl, sym, subst, ap, ap₂, _∙_}
-use mathlib.Core.Bool.{true, false}
-use mathlib.Core.List.{List}
+use mathlib.Core.Bool.{Bool, true, false, true≢false}
+use mathlib.Core.List.{List, [], _∷_, map, head-eq-of-cons-eq, tail-eq-of-cons-eq, nil≢cons, cons≢nil}
 use Prim.Native.Nat.{ℕ}
 use native.Mathlib.Omega.{arith}
-use Rattle.model.specs.Calls.{Call}
-use Rattle.model.specs.Demand3.{Handed, Promised, Run}
+use lib.ListN.{length, take}
+use Rattle.model.specs.Calls.{Call, giveRegisters, setValue, owner}
+use Rattle.model.specs.Demand3.{Chosen, hide, hiddenOwner, hiddenCall, Alike, SameOutcome, SameOutcomes, Handed, seen, Promised}
 use Rattle.meter.specs.declared.Meter.{Meter}
 use Rattle.meter.specs.View.{view}
 use Rattle.protocol.specs.Decide.{p2}
@@ -14,38 +16,149 @@ use Rattle.image.specs.declared.Status.{Status}
 use Rattle.image.specs.declared.Status.the-variants.{Whole}
 use Rattle.image.specs.Image.{meterOf, statusOf}
 use Rattle.capi.specs.Refusals.{ownRefusal}
-use Rattle.capi.specs.Runs.{Library, receives, owns, LibraryRuns, none, more, refused, RefusedByArguments, LibraryDemand3}
-
--- one call: the model's promise of the meter in the buffer, and the buffer holds a whole image again
-record Made (s e : List ℕ) (c : Call) (h : Handed Meter view) : Type 0 where
-  pub promised : Promised Meter view p2 c (meterOf s) h
-  pub again : statusOf e ≡ Whole
-  pub next : h .meter ≡ meterOf e
-
-call-made : (s e : List ℕ) {c : Call} {h : Handed Meter view} → statusOf s ≡ Whole → Library s e c h → Made s e c h
-call-made s e w (receives a l o k n f) =
-    let x = f .called (ap (λ (t : Status). ownRefusal t true) w) in
-    record { promised = x .promised; again = x .again; next = refl }
-call-made s e w (owns c n f) =
-    let x = f .called (ap (λ (t : Status). ownRefusal t true) w) in
-    record { promised = x .promised; again = x .again; next = refl }
+use Rattle.capi.specs.Runs.{LentOwner, registers, value, columns, period, clock, p5, powered, LentCall, receive, own, takenArguments, ownerOf, callOf, hiddenOwn, hiddenLent, Library, receives, owns, LibraryRuns, none, more, RefusedByArguments, LibraryDemand3}
+use Rattle.capi.proofs.RecordLaws.{whole-hidden, list-hidden}
 
 -- a call that the library refuses for its arguments
 pub refused-by-arguments : RefusedByArguments
 refused-by-arguments good c s e n w g f =
-    let own : ownRefusal (statusOf s) good ≡ 104 = ap₂ ownRefusal w g in
-    let q : n ≡ 104 = f .refused (λ z. omega (arith, own)) ∙ own in
+    let told : ownRefusal (statusOf s) good ≡ 104 = ap₂ ownRefusal w g in
+    let q : n ≡ 104 = f .refused (λ z. omega (arith, told)) ∙ told in
     (q, f .kept (λ z. omega arith))
 
-library-runs : (s : List ℕ) {cs : List Call} {hs : List (Handed Meter view)} → statusOf s ≡ Whole → LibraryRuns s cs hs → Run Meter view p2 (meterOf s) cs hs
-library-runs s w none = tt
-library-runs s w (refused {cs = cs} {hs = hs} c e n f r) =
-    let k : e ≡ s = refused-by-arguments false c s e n w refl f .1 in
-    subst (λ (x : List ℕ). Run Meter view p2 (meterOf x) cs hs) k (library-runs e (ap statusOf k ∙ w) r)
-library-runs s w (more {h = h} {cs = cs} {hs = hs} e l r) =
-    let m = call-made s e w l in
-    (m .promised, subst (λ (x : Meter). Run Meter view p2 x cs hs) (sym (m .next)) (library-runs e (m .again) r))
+-- the arguments of a call are taken; those of a frame call are tested by the call itself
+abbrev taken : LentCall → Bool
+taken (receive a) = true
+taken (own c) = takenArguments c
+
+-- Alike calls.
+
+hide-twice : (b : Bool) (v : ℕ) → hide b v ≡ hide b (hide b v)
+hide-twice true v = refl
+hide-twice false v = refl
+
+module _ (ch : Chosen) where
+  own-taken-hidden : (c : LentOwner) → takenArguments c ≡ takenArguments (hiddenOwn ch c)
+  own-taken-hidden (registers s) = whole-hidden ch s
+  own-taken-hidden (value n v) = refl
+  own-taken-hidden (columns s) = refl
+  own-taken-hidden (period d) = refl
+  own-taken-hidden (clock t) = refl
+  own-taken-hidden (p5 h) = refl
+  own-taken-hidden powered = refl
+
+  taken-hidden : (c : LentCall) → taken c ≡ taken (hiddenLent ch c)
+  taken-hidden (receive a) = refl
+  taken-hidden (own c) = own-taken-hidden c
+
+  own-call-hidden : (c : LentOwner) → hiddenOwner ch (ownerOf c) ≡ hiddenOwner ch (ownerOf (hiddenOwn ch c))
+  own-call-hidden (registers s) = ap giveRegisters (list-hidden ch s)
+  own-call-hidden (value n v) = ap (setValue (record { bytes = n })) (hide-twice (ch (record { bytes = n })) v)
+  own-call-hidden (columns s) = refl
+  own-call-hidden (period d) = refl
+  own-call-hidden (clock t) = refl
+  own-call-hidden (p5 h) = refl
+  own-call-hidden powered = refl
+
+  call-hidden : (c : LentCall) → hiddenCall ch (callOf c) ≡ hiddenCall ch (callOf (hiddenLent ch c))
+  call-hidden (receive a) = refl
+  call-hidden (own c) = ap owner (own-call-hidden c)
+
+-- One call.
+
+-- it is made: the model's promise of the meter in the buffer, and the buffer holds a whole image again
+record Made (s e : List ℕ) (c : Call) (h : Handed Meter view) : Type 0 where
+  pub promised : Promised Meter view p2 c (meterOf s) h
+  pub again : statusOf e ≡ Whole
+
+-- it is refused for its arguments
+record Refused (s e : List ℕ) (h : Handed Meter view) : Type 0 where
+  pub refusal : h .refusal ≡ 104
+  pub count : h .count ≡ 0
+  pub kept : e ≡ s
+
+record Called (s e : List ℕ) (c : LentCall) (h : Handed Meter view) : Type 0 where
+  pub made : taken c ≡ true → Made s e (callOf c) h
+  pub refused : taken c ≡ false → Refused s e h
+  pub next : h .meter ≡ meterOf e
+
+called : (s e : List ℕ) {c : LentCall} {h : Handed Meter view} → statusOf s ≡ Whole → Library s e c h → Called s e c h
+called s e w (receives a l o k n f) =
+    let x = f .called (ap (λ (t : Status). ownRefusal t true) w) in
+    record { made = λ _. record { promised = x .promised; again = x .again }; refused = λ g. absurd (true≢false g); next = refl }
+called s e w (owns c n f) =
+    record {
+      made = λ g.
+          let x = f .called (ap₂ ownRefusal w g) in
+          record { promised = x .promised; again = x .again };
+      refused = λ g.
+          let x = refused-by-arguments (takenArguments c) (ownerOf c) s e n w g f in
+          record { refusal = x .0; count = refl; kept = x .1 };
+      next = refl;
+    }
+
+-- One call in each of two runs.
+
+record Both (ch : Chosen) (c : LentCall) (s₁ e₁ e₂ : List ℕ) (h₁ h₂ : Handed Meter view) : Type 0 where
+  pub same : SameOutcome p2 ch (callOf c) (view (meterOf s₁)) (seen Meter view h₁) (seen Meter view h₂)
+  pub first : statusOf e₁ ≡ Whole
+  pub second : statusOf e₂ ≡ Whole
+
+module _ (ch : Chosen) {s₁ s₂ e₁ e₂ : List ℕ} {c₁ c₂ : LentCall} {h₁ h₂ : Handed Meter view} (w₁ : statusOf s₁ ≡ Whole) (w₂ : statusOf s₂ ≡ Whole)
+    (a : Alike ch (view (meterOf s₁)) (view (meterOf s₂))) (c : hiddenLent ch c₁ ≡ hiddenLent ch c₂) (x : Called s₁ e₁ c₁ h₁) (y : Called s₂ e₂ c₂ h₂) where
+  taken-same : taken c₁ ≡ taken c₂
+  taken-same = taken-hidden ch c₁ ∙ ap taken c ∙ sym (taken-hidden ch c₂)
+
+  calls-same : hiddenCall ch (callOf c₁) ≡ hiddenCall ch (callOf c₂)
+  calls-same = call-hidden ch c₁ ∙ ap (λ (d : LentCall). hiddenCall ch (callOf d)) c ∙ sym (call-hidden ch c₂)
+
+  both-made : taken c₁ ≡ true → Both ch c₁ s₁ e₁ e₂ h₁ h₂
+  both-made g =
+      let m₁ = x .made g in
+      let m₂ = y .made (sym taken-same ∙ g) in
+      record {
+        same = p2-demand3 ch (meterOf s₁) (meterOf s₂) (callOf c₁ ∷ []) (callOf c₂ ∷ []) (h₁ ∷ []) (h₂ ∷ []) a (ap (λ (d : Call). d ∷ []) calls-same) (m₁ .promised, tt) (m₂ .promised, tt) .0;
+        first = m₁ .again;
+        second = m₂ .again;
+      }
+
+  both-refused : taken c₁ ≡ false → Both ch c₁ s₁ e₁ e₂ h₁ h₂
+  both-refused g =
+      let r₁ = x .refused g in
+      let r₂ = y .refused (sym taken-same ∙ g) in
+      let none-sent : (h : Handed Meter view) → h .count ≡ 0 → take (h .count) (h .after) ≡ [] = λ h e. ap (λ (k : ℕ). take k (h .after)) e in
+      let sent-same = none-sent h₁ (r₁ .count) ∙ sym (none-sent h₂ (r₂ .count)) in
+      record {
+        same = record {
+          refusal = r₁ .refusal ∙ sym (r₂ .refusal);
+          size = ap length sent-same;
+          sent = λ _. sent-same;
+          next = subst (λ (m : Meter). Alike ch (view m) (view (h₂ .meter))) (sym (x .next ∙ ap meterOf (r₁ .kept)))
+              (subst (λ (m : Meter). Alike ch (view (meterOf s₁)) (view m)) (sym (y .next ∙ ap meterOf (r₂ .kept))) a);
+        };
+        first = ap statusOf (r₁ .kept) ∙ w₁;
+        second = ap statusOf (r₂ .kept) ∙ w₂;
+      }
+
+  both : Both ch c₁ s₁ e₁ e₂ h₁ h₂
+  both = go (taken c₁) refl
+    where
+      go : (b : Bool) → taken c₁ ≡ b → Both ch c₁ s₁ e₁ e₂ h₁ h₂
+      go true g = both-made g
+      go false g = both-refused g
+
+-- Lists of calls.
 
 pub library-demand3 : LibraryDemand3
-library-demand3 ch s₁ s₂ cs₁ cs₂ hs₁ hs₂ w₁ w₂ a c r₁ r₂ =
-    p2-demand3 ch (meterOf s₁) (meterOf s₂) cs₁ cs₂ hs₁ hs₂ a c (library-runs s₁ w₁ r₁) (library-runs s₂ w₂ r₂)
+library-demand3 ch s₁ s₂ [] [] [] [] w₁ w₂ a c none none = tt
+library-demand3 ch s₁ s₂ [] (c₂ ∷ cs₂) hs₁ hs₂ w₁ w₂ a c r₁ r₂ = absurd (nil≢cons c)
+library-demand3 ch s₁ s₂ (c₁ ∷ cs₁) [] hs₁ hs₂ w₁ w₂ a c r₁ r₂ = absurd (cons≢nil c)
+library-demand3 ch s₁ s₂ (c₁ ∷ cs₁) (c₂ ∷ cs₂) (h₁ ∷ hs₁) (h₂ ∷ hs₂) w₁ w₂ a c (more e₁ l₁ r₁) (more e₂ l₂ r₂) =
+    let x = called s₁ e₁ w₁ l₁ in
+    let y = called s₂ e₂ w₂ l₂ in
+    let b = both ch w₁ w₂ a (head-eq-of-cons-eq c) x y in
+    let like = subst (λ (m : Meter). Alike ch (view (meterOf e₁)) (view m)) (y .next) (subst (λ (m : Meter). Alike ch (view m) (view (h₂ .meter))) (x .next) (b .same .next)) in (
+      b .same,
+      subst (λ (m : Meter). SameOutcomes p2 ch (map callOf cs₁) (view m) (map (seen Meter view) hs₁) (map (seen Meter view) hs₂)) (sym (x .next))
+          (library-demand3 ch e₁ e₂ cs₁ cs₂ hs₁ hs₂ (b .first) (b .second) like (tail-eq-of-cons-eq c) r₁ r₂),
+    )

@@ -1,39 +1,107 @@
 -- Demand 3 of the static library as it runs: the frame call and all owner's calls, each by its own `ensures`, in any list of calls on
--- a state buffer that holds a whole image at first, in which each finds the buffer as the last one left it. Owner's calls that the
--- library itself refuses may stand anywhere between them: each leaves the buffer, and its number is that of its arguments
--- (`RefusedByArguments`).
+-- a state buffer that holds a whole image at first, in which each finds the buffer as the last one left it. A call stands in the list
+-- as it is lent, so that those which the library itself refuses for their arguments are among them, each with its number.
 use mathlib.Core.Path.{_≡_}
-use mathlib.Core.Bool.{Bool, true, false}
-use mathlib.Core.List.{List, [], _∷_, map}
-use Prim.Native.Nat.{ℕ}
-use Rattle.model.specs.Calls.{Lent, OwnerCall, Call, frame, owner}
-use Rattle.model.specs.Demand3.{Chosen, Alike, AlikeCalls, SameOutcomes, Handed, seen}
+use mathlib.Core.Bool.{Bool, true, false, cond}
+use mathlib.Core.List.{List, [], _∷_, _++_, map}
+use Prim.Native.Nat.{ℕ, zero, suc, _/_}
+use lib.Dec.{eqb}
+use lib.ListN.{length, take, drop, replicate}
+use Rattle.model.specs.Calls.{Lent, OwnerCall, giveRegisters, setValue, setColumns, setPeriod, tick, setP5, powerUp, Call, frame, owner}
+use Rattle.model.specs.Demand3.{Chosen, hide, Alike, SameOutcomes, Handed, seen}
 use Rattle.meter.specs.declared.Meter.{Meter}
 use Rattle.meter.specs.View.{view}
 use Rattle.protocol.specs.Decide.{p2}
 use Rattle.image.specs.declared.Status.the-variants.{Whole}
+use Rattle.image.specs.Layout.{namePart, registerPart}
+use Rattle.image.specs.Lists.{wholeList, listIn}
 use Rattle.image.specs.Image.{meterOf, statusOf}
-use Rattle.capi.specs.Refusals.{wrongArgument}
+use Rattle.capi.specs.Refusals.{wrongArgument, sized, isFlag}
 use Rattle.capi.specs.Promises.{handedBack, OwnerCalled, FrameCalled}
 
+-- A call as it is lent: one constructor for each function of the library on a meter.
+
+pub data LentOwner : Type 0 where
+  registers : (records : List ℕ) → LentOwner
+  value : (name : List ℕ) → (value : ℕ) → LentOwner
+  columns : (names : List ℕ) → LentOwner
+  period : ℕ → LentOwner
+  clock : (bytes : List ℕ) → LentOwner
+  p5 : (held : ℕ) → LentOwner
+  powered : LentOwner
+
+pub data LentCall : Type 0 where
+  receive : Lent → LentCall
+  own : LentOwner → LentCall
+
+-- the arguments are taken; else the library refuses the call
+abbrev pub takenArguments : LentOwner → Bool
+takenArguments (registers s) = wholeList registerPart s
+takenArguments (value n v) = sized 6 n
+takenArguments (columns s) = wholeList namePart s
+takenArguments (period d) = true
+takenArguments (clock t) = sized 12 t
+takenArguments (p5 h) = isFlag h
+takenArguments powered = true
+
+-- the call on a meter that is then made
+abbrev pub ownerOf : LentOwner → OwnerCall
+ownerOf (registers s) = giveRegisters (listIn registerPart s)
+ownerOf (value n v) = setValue (record { bytes = n }) v
+ownerOf (columns s) = setColumns (listIn namePart s)
+ownerOf (period d) = setPeriod d
+ownerOf (clock t) = tick (record { bytes = t })
+ownerOf (p5 h) = setP5 (eqb h 1)
+ownerOf powered = powerUp
+
+abbrev pub callOf : LentCall → Call
+callOf (receive a) = frame a
+callOf (own c) = owner (ownerOf c)
+
+-- Alike.
+
+-- the record of a register, its four last bytes being the value: zeros for them where the register is chosen
+abbrev pub hiddenRecord : Chosen → List ℕ → List ℕ
+hiddenRecord ch s = take 9 s ++ cond (ch (record { bytes = take 6 s })) (replicate 4 0) (take 4 (drop 9 s))
+
+-- the first n records so, and what follows them as it is
+unfoldable pub hiddenRecords : Chosen → ℕ → List ℕ → List ℕ
+hiddenRecords ch zero s = s
+hiddenRecords ch (suc n) s = hiddenRecord ch s ++ hiddenRecords ch n (drop 13 s)
+
+-- a call with 0 for the values that it gives or sets for chosen registers, whether its arguments are taken or not
+abbrev pub hiddenOwn : Chosen → LentOwner → LentOwner
+hiddenOwn ch (registers s) = registers (hiddenRecords ch (length s / 13) s)
+hiddenOwn ch (value n v) = value n (hide (ch (record { bytes = n })) v)
+hiddenOwn ch (columns s) = columns s
+hiddenOwn ch (period d) = period d
+hiddenOwn ch (clock t) = clock t
+hiddenOwn ch (p5 h) = p5 h
+hiddenOwn ch powered = powered
+
+abbrev pub hiddenLent : Chosen → LentCall → LentCall
+hiddenLent ch (receive a) = receive a
+hiddenLent ch (own c) = own (hiddenOwn ch c)
+
+-- "arguments are equal in both runs but for values given or set for chosen registers"
+abbrev pub AlikeLent : Chosen → List LentCall → List LentCall → Type 0
+AlikeLent ch cs₁ cs₂ = map (hiddenLent ch) cs₁ ≡ map (hiddenLent ch) cs₂
+
+-- Runs.
+
 -- a call of the library, from what the buffer held to what it holds
-pub data Library (s e : List ℕ) : Call → Handed Meter view → Type 0 where
-  receives : (a : Lent) (l o : List ℕ) (k n : ℕ) → FrameCalled a s e l o k n → Library s e (frame a) (handedBack n k e l o)
-  owns : (c : OwnerCall) (n : ℕ) → OwnerCalled true c s e n → Library s e (owner c) (handedBack n 0 e [] [])
+pub data Library (s e : List ℕ) : LentCall → Handed Meter view → Type 0 where
+  receives : (a : Lent) (l o : List ℕ) (k n : ℕ) → FrameCalled a s e l o k n → Library s e (receive a) (handedBack n k e l o)
+  owns : (c : LentOwner) (n : ℕ) → OwnerCalled (takenArguments c) (ownerOf c) s e n → Library s e (own c) (handedBack n 0 e [] [])
 
 -- a list of calls is made
-pub data LibraryRuns : (state : List ℕ) → List Call → List (Handed Meter view) → Type 0 where
+pub data LibraryRuns : (state : List ℕ) → List LentCall → List (Handed Meter view) → Type 0 where
   none : {s : List ℕ} → LibraryRuns s [] []
   more :
-      {s : List ℕ} {c : Call} {h : Handed Meter view} {cs : List Call} {hs : List (Handed Meter view)} (e : List ℕ)
+      {s : List ℕ} {c : LentCall} {h : Handed Meter view} {cs : List LentCall} {hs : List (Handed Meter view)} (e : List ℕ)
       → Library s e c h
       → LibraryRuns e cs hs
       → LibraryRuns s (c ∷ cs) (h ∷ hs)
-  refused :
-      {s : List ℕ} {cs : List Call} {hs : List (Handed Meter view)} (c : OwnerCall) (e : List ℕ) (n : ℕ)
-      → OwnerCalled false c s e n
-      → LibraryRuns e cs hs
-      → LibraryRuns s cs hs
 
 -- on a whole image the library refuses for the arguments alone
 abbrev pub RefusedByArguments : Type 0
@@ -45,14 +113,14 @@ RefusedByArguments =
     → (n ≡ wrongArgument) × (e ≡ s)
 
 -- two buffers with whole images of meters that are alike but for the chosen registers, the same list of calls, whatever the two
--- runs hand back: the same numbers and lengths, and the same bytes but for granted reads
+-- runs hand back: for each call, refused or not, the same number and length, and the same bytes but for granted reads
 abbrev pub LibraryDemand3 : Type 0
 LibraryDemand3 =
-    (ch : Chosen) (s₁ s₂ : List ℕ) (cs₁ cs₂ : List Call) (hs₁ hs₂ : List (Handed Meter view))
+    (ch : Chosen) (s₁ s₂ : List ℕ) (cs₁ cs₂ : List LentCall) (hs₁ hs₂ : List (Handed Meter view))
     → statusOf s₁ ≡ Whole
     → statusOf s₂ ≡ Whole
     → Alike ch (view (meterOf s₁)) (view (meterOf s₂))
-    → AlikeCalls ch cs₁ cs₂
+    → AlikeLent ch cs₁ cs₂
     → LibraryRuns s₁ cs₁ hs₁
     → LibraryRuns s₂ cs₂ hs₂
-    → SameOutcomes p2 ch cs₁ (view (meterOf s₁)) (map (seen Meter view) hs₁) (map (seen Meter view) hs₂)
+    → SameOutcomes p2 ch (map callOf cs₁) (view (meterOf s₁)) (map (seen Meter view) hs₁) (map (seen Meter view) hs₂)
