@@ -15,7 +15,7 @@ use Rattle.model.proofs.LimitFacts.{reply-room}
 use Rattle.model.specs.declared.Client.{Client}
 use Rattle.model.specs.declared.Client.the-variants.{Verification, Han}
 use Rattle.model.specs.declared.Counters.{Counters}
-use Rattle.model.specs.State.{Association, Peer, Line, Body}
+use Rattle.model.specs.State.{Association, none, pending, associated, Peer, Line, Body}
 use Rattle.model.specs.Objects.{Request, Service, get, action, meaning, Result, granted, denied, refusalOf as resultNumber, attributeRead, methodInvoked, getAnswer, actionAnswer, answered, turned}
 use Rattle.model.specs.Soundness.{isNone, sound}
 use Rattle.model.specs.Calls.{Lent, Wrap, lentRefusal, act, step}
@@ -36,8 +36,8 @@ use Rattle.body.specs.declared.BodyState.{BodyState}
 use Rattle.body.specs.View.{bodyOf}
 use Rattle.meter.specs.declared.Meter.{Meter}
 use Rattle.meter.specs.View.{view}
-use Rattle.line.specs.Left.{Wiped}
-use Rattle.protocol.specs.Clients.{peer, withPeer, associates, withCounters, dedicatedKeys}
+use Rattle.line.specs.Left.{NoChallenges, Wiped}
+use Rattle.protocol.specs.Clients.{peer, withPeer, associates, withCounters, dedicatedKeys, isPending, isAssociated}
 use Rattle.protocol.specs.Rulings.{Test, refusalOf, Reply, bytesOf, Ruling, says, asks}
 use Rattle.protocol.specs.Outcomes.{keeping}
 use Rattle.counters.specs.Window.{accepting}
@@ -60,25 +60,47 @@ nothing-sent l = record { holds = refl; count = refl }
 no-end : {b : Bool} {P : Type 0} → b ≡ false → b ≡ true → P
 no-end h q = absurd (false≢true (sym h ∙ q))
 
+-- no association is both pending and associated
+not-both : (x : Association) {P : Type 0} → isPending x ≡ true → isAssociated x ≡ true → P
+not-both none h q = absurd (false≢true h)
+not-both (pending a k c s) h q = absurd (false≢true q)
+not-both (associated a k) h q = absurd (false≢true h)
+
 module _ (next : LineState) where
+  ended-one : (d : Client) (p : Peer) (l : Line) → Wiped d next → (c : Client) → isNone (peer c l .association) ≡ false → isNone (peer c (withPeer d p l) .association) ≡ true → Wiped c next
+  ended-one Verification p l w Verification h q = w
+  ended-one Verification p l w Han h q = no-end h q
+  ended-one Han p l w Verification h q = no-end h q
+  ended-one Han p l w Han h q = w
+
+  answered-one : (d : Client) (p : Peer) (l : Line) → Wiped d next → isPending (l .han .peer .association) ≡ true → isAssociated (withPeer d p l .han .peer .association) ≡ true → NoChallenges next
+  answered-one Verification p l w h q = not-both (l .han .peer .association) h q
+  answered-one Han p l w h q = w .challenges
+
   -- one client's association ends, and the other's is as it was
   pub ends-one : (d : Client) (p : Peer) (l : Line) → Wiped d next → Wipes l (withPeer d p l) next
-  ends-one Verification p l w Verification h q = w
-  ends-one Verification p l w Han h q = no-end h q
-  ends-one Han p l w Verification h q = no-end h q
-  ends-one Han p l w Han h q = w
+  ends-one d p l w = record { ended = ended-one d p l w; answered = answered-one d p l w }
 
   -- one client has an association
-  pub stands-one : (d : Client) (x : Association) (l : Line) → isNone x ≡ false → Wipes l (associates d x l) next
-  stands-one Verification x l e Verification h q = no-end e q
-  stands-one Verification x l e Han h q = no-end h q
-  stands-one Han x l e Verification h q = no-end h q
-  stands-one Han x l e Han h q = no-end e q
+  stood-one : (d : Client) (x : Association) (l : Line) → isNone x ≡ false → (c : Client) → isNone (peer c l .association) ≡ false → isNone (peer c (associates d x l) .association) ≡ true → Wiped c next
+  stood-one Verification x l e Verification h q = no-end e q
+  stood-one Verification x l e Han h q = no-end h q
+  stood-one Han x l e Verification h q = no-end h q
+  stood-one Han x l e Han h q = no-end e q
+
+  pub stands-plain : (x : Association) (l : Line) → isNone x ≡ false → Wipes l (associates Verification x l) next
+  stands-plain x l e = record { ended = stood-one Verification x l e; answered = λ h q. not-both (l .han .peer .association) h q }
+
+  pub stands-ciphered : (x : Association) (l : Line) → isNone x ≡ false → (isAssociated x ≡ true → NoChallenges next) → Wipes l (associates Han x l) next
+  stands-ciphered x l e a = record { ended = stood-one Han x l e; answered = λ h q. a q }
 
   -- counters are no part of it
+  counted-ended : (n : Counters) (l : Line) {m : Line} → Wipes m l next → (c : Client) → isNone (peer c m .association) ≡ false → isNone (peer c (withCounters n l) .association) ≡ true → Wiped c next
+  counted-ended n l w Verification h q = w .ended Verification h q
+  counted-ended n l w Han h q = w .ended Han h q
+
   pub counted : (n : Counters) (l : Line) {m : Line} → Wipes m l next → Wipes m (withCounters n l) next
-  counted n l w Verification h q = w Verification h q
-  counted n l w Han h q = w Han h q
+  counted n l w = record { ended = counted-ended n l w; answered = w .answered }
 
 pub counted-same : (n : Counters) (l : Line) → SameAssociations l (withCounters n l)
 counted-same n l Verification = refl
@@ -89,15 +111,23 @@ pub accepted-same : (counter : ℕ) (l : Line) {n : Line} → n ≡ accepted cou
 accepted-same counter l e d = ap (λ (y : Line). peer d y .association) e ∙ counted-same (accepting (l .han .counters) counter) l d
 
 pub same-wipes : {l n : Line} (next : LineState) → SameAssociations l n → Wipes l n next
-same-wipes next k c h q = no-end h (sym (ap isNone (k c)) ∙ q)
+same-wipes {l} next k =
+    record {
+      ended = λ c h q. no-end h (sym (ap isNone (k c)) ∙ q);
+      answered = λ h q. not-both (l .han .peer .association) h (sym (ap isAssociated (k Han)) ∙ q);
+    }
 
 -- by the line of the code
 module _ (m : Meter) (next : LineState) {becomes : Line} (v : lineOf next ≡ becomes) where
   leaves : (b : BodyState) → Wipes (lineOf (m .line)) becomes next → LeavesNothing m (record { line = next; body = b })
-  leaves b w c h q = w c h (ap (λ (y : Line). isNone (peer c y .association)) (sym v) ∙ q)
+  leaves b w =
+      record {
+        ended = λ c h q. w .ended c h (ap (λ (y : Line). isNone (peer c y .association)) (sym v) ∙ q);
+        answered = λ h q. w .answered h (ap (λ (y : Line). isAssociated (y .han .peer .association)) (sym v) ∙ q);
+      }
 
 kept-leaves : (m : Meter) → LeavesNothing m m
-kept-leaves m c h q = no-end h q
+kept-leaves m = record { ended = λ c h q. no-end h q; answered = λ h q. not-both (lineOf (m .line) .han .peer .association) h q }
 
 -- Rulings.
 

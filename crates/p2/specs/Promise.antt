@@ -24,11 +24,11 @@ use Rattle.body.specs.declared.BodyState.{BodyState}
 use Rattle.meter.specs.declared.Meter.{Meter}
 use Rattle.meter.specs.View.{view}
 use Rattle.protocol.specs.declared.Secrets.{Secrets}
-use Rattle.protocol.specs.Clients.{peer, lentKeys, dedicatedKeys}
+use Rattle.protocol.specs.Clients.{peer, lentKeys, dedicatedKeys, isPending, isAssociated}
 use Rattle.protocol.specs.Rulings.{Test, refusalOf, Ruling, says, apdu, decision}
 use Rattle.protocol.specs.Decide.{p2}
 use Rattle.protocol.specs.Outcomes.{keeping}
-use Rattle.line.specs.Left.{Wiped}
+use Rattle.line.specs.Left.{NoChallenges, Wiped}
 use Rattle.p2.specs.declared.Received.{Received}
 use Rattle.p2.specs.declared.Told.{Told}
 
@@ -67,11 +67,12 @@ requestByte Unknown = 0xD3
 abbrev pub handed : Received → (before after : List ℕ) → Handed Meter view
 handed r l o = record { refusal = r .refusal; count = r .count; meter = r .meter; before = l; after = o }
 
--- What an ended association leaves: a client that had one before and has none after left zeros for its agreed services, its key
--- and its challenges. The papers know no such bytes, and the view does not show them.
-
-abbrev pub Wipes : (before after : Line) → LineState → Type 0
-Wipes l n next = (c : Client) → isNone (peer c l .association) ≡ false → isNone (peer c n .association) ≡ true → Wiped c next
+-- What an association leaves that holds less than before. A client that had one and has none left zeros for its agreed services, its
+-- key and its challenges; H that was pending and is associated left zeros for its challenges. The papers know no such bytes, and
+-- the view does not show them.
+pub record Wipes (before after : Line) (next : LineState) : Type 0 where
+  pub ended : (c : Client) → isNone (peer c before .association) ≡ false → isNone (peer c after .association) ≡ true → Wiped c next
+  pub answered : isPending (before .han .peer .association) ≡ true → isAssociated (after .han .peer .association) ≡ true → NoChallenges next
 
 abbrev pub LeavesNothing : Meter → Meter → Type 0
 LeavesNothing m n = Wipes (lineOf (m .line)) (lineOf (n .line)) (n .line)
@@ -81,7 +82,7 @@ abbrev pub SameAssociations : Line → Line → Type 0
 SameAssociations l n = (c : Client) → peer c n .association ≡ peer c l .association
 
 -- the frame call: the model's promise at this protocol; where the meter is unchanged, the very meter comes back; and nothing is
--- left of an association that ended
+-- left of an association that ended, or of challenges that were answered
 pub record Answered (a : Lent) (m : Meter) (l o : List ℕ) (r : Received) : Type 0 where
   pub promised : Promised Meter view p2 (frame a) m (handed r l o)
   pub kept : listed (r .refusal) keeping ≡ true → r .meter ≡ m

@@ -1,9 +1,10 @@
 -- `p2::associate::accept_ciphered` meets its contract.
 use mathlib.Core.Path.{refl, sym}
+use mathlib.Core.Bool.{false≢true}
 use Rattle.line.specs.View.{lineOf}
 use Rattle.protocol.specs.Rulings.{none}
 use Rattle.protocol.specs.Decide.{acceptedCiphered}
-use Rattle.p2.proofs.Endings.{says-line, counted, stands-one}
+use Rattle.p2.proofs.Endings.{says-line, counted, stands-ciphered}
 use Rattle.protocol.specs.Clients.{associates}
 use Rattle.model.specs.State.{pending}
 use Rattle.model.specs.declared.Client.the-variants.{Han}
@@ -26,7 +27,7 @@ returns c e b =
     rw (sym (at-agreed .agreed .ensures), sym e, sym (at-accept .accept .ensures), sym (at-take .take .ensures))
     (says-line none _ (meterWith (s .args .line) b) refl (at-send-accepted-ciphered .send-accepted-ciphered .ensures) _ (at-pending .pending .ensures) refl
     (counted (at-pending .pending .result) (at-take .take .result .counters) (associates Han after l)
-    (stands-one (at-pending .pending .result) Han after l refl)))
+    (stands-ciphered (at-pending .pending .result) after l refl (λ g. absurd (false≢true g)))))
 
 pub accept-ciphered-spec : {M : Type 1} → statement M
 accept-ciphered-spec =

@@ -3,7 +3,7 @@ use mathlib.Core.Path.{refl, sym}
 use Rattle.line.specs.View.{lineOf}
 use Rattle.protocol.specs.Rulings.{none}
 use Rattle.protocol.specs.Decide.{acceptedPlain}
-use Rattle.p2.proofs.Endings.{says-line, stands-one}
+use Rattle.p2.proofs.Endings.{says-line, stands-plain}
 use Rattle.model.specs.State.{associated}
 use Rattle.model.specs.declared.Client.the-variants.{Verification}
 use mathlib.Core.List.{[]}
@@ -22,7 +22,7 @@ returns c b =
     let l = lineOf (s .args .line) in
     rw (sym (at-agreed .agreed .ensures))
     (says-line none _ (meterWith (s .args .line) b) refl (at-send-accepted-plain .send-accepted-plain .ensures) _ (at-associated-plain .associated-plain .ensures) refl
-    (stands-one (at-associated-plain .associated-plain .result) Verification (associated (at-agreed .agreed .result) []) l refl))
+    (stands-plain (at-associated-plain .associated-plain .result) (associated (at-agreed .agreed .result) []) l refl))
 
 pub accept-plain-spec : {M : Type 1} → statement M
 accept-plain-spec =

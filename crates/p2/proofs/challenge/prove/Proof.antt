@@ -3,7 +3,7 @@ use mathlib.Core.Path.{refl, sym}
 use Rattle.line.specs.View.{lineOf}
 use Rattle.protocol.specs.Rulings.{none}
 use Rattle.protocol.specs.Decide.{proved}
-use Rattle.p2.proofs.Endings.{says-line, counted, stands-one}
+use Rattle.p2.proofs.Endings.{says-line, counted, stands-ciphered}
 use Rattle.protocol.specs.Clients.{associates, agreedIn, keyIn}
 use Rattle.model.specs.State.{associated}
 use Rattle.model.specs.declared.Client.the-variants.{Han}
@@ -28,7 +28,7 @@ returns c a e b =
     rw (sym e, sym (at-client-challenge .client-challenge .ensures), sym (at-accept .accept .ensures), sym (at-take .take .ensures), sym (at-take2 .take2 .ensures))
     (says-line none _ (meterWith (s .args .line) b) refl (at-send-proof .send-proof .ensures) _ (at-associated-ciphered .associated-ciphered .ensures .view) refl
     (counted (at-associated-ciphered .associated-ciphered .result) (at-take2 .take2 .result .counters) (associates Han after l)
-    (stands-one (at-associated-ciphered .associated-ciphered .result) Han after l refl)))
+    (stands-ciphered (at-associated-ciphered .associated-ciphered .result) after l refl (λ _. at-associated-ciphered .associated-ciphered .ensures .wiped))))
 
 pub prove-spec : {M : Type 1} → statement M
 prove-spec =
