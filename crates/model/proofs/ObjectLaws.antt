@@ -7,13 +7,13 @@ use Rattle.model.specs.declared.Client.{Client}
 use Rattle.model.specs.declared.Client.the-variants.{Verification, Han}
 use Rattle.model.specs.declared.Register.{Register}
 use Rattle.model.specs.Names.{sameName, given, bearing}
-use Rattle.model.specs.Objects.{clock, time, date, Content, simple, rows, recordNumber, register, Own, own, named, deviceObject, profileNamed, registerObject, Meaning, known, unknown, amongRegisters, meaning}
+use Rattle.model.specs.Objects.{clock, time, date, Content, simple, rows, recordNumber, register, Own, own, named, deviceObject, profileNamed, recordNumberNamed, registerObject, Meaning, known, unknown, amongRegisters, meaning}
 
--- Which name a content goes with: the rows with the profile's, a register's value with the name of that register.
+-- Which name a content goes with: the rows with the profile's, the record number with its own, a register's value with the name of that register.
 abbrev pub Tells : Content → Name → List Register → Type 0
 Tells (simple x) n rs = Unit {0}
 Tells rows n rs = sameName profileNamed n ≡ true
-Tells recordNumber n rs = Unit {0}
+Tells recordNumber n rs = sameName recordNumberNamed n ≡ true
 Tells (register r) n rs = (sameName profileNamed n ≡ false) × (given n rs ≡ true) × (r ≡ bearing n rs)
 
 abbrev pub Means : Meaning → Name → List Register → Type 0
@@ -43,5 +43,5 @@ meaning-tells Han n rs =
     means-if (own (named 1 0 0 9 2 255) 1 2 0 (simple date)) _ n rs (λ _. tt) λ _.
     means-if deviceObject _ n rs (λ _. tt) λ _.
     means-if (own profileNamed 7 2 1 rows) _ n rs (λ h. h) λ h.
-    means-if (own (named 0 0 96 15 3 255) 3 3 1 recordNumber) _ n rs (λ _. tt) λ _.
+    means-if (own recordNumberNamed 3 3 1 recordNumber) _ n rs (λ i. i) λ _.
     registers-tell n rs h

@@ -1,37 +1,47 @@
 -- The record number is never invented: the statement on it of specs/Archive, proved.
 use mathlib.Core.Path.{_≡_, refl, _∙_, ap}
 use mathlib.Core.Bool.{Bool, true, false, cond}
+use mathlib.Core.List.{List}
 use lib.Dec.{eqb}
-use Rattle.model.specs.Names.{given}
+use Rattle.model.specs.declared.Name.{Name}
+use Rattle.model.specs.declared.Register.{Register}
+use Rattle.model.specs.Names.{sameName, given}
 use Rattle.model.specs.Clocks.{validClock}
 use Rattle.model.specs.Periods.{permittedPeriod, captureDue}
 use Rattle.model.specs.State.{Line, Body, Model, withBody, withClock}
 use Rattle.model.specs.Soundness.{acceptedRegisters, acceptedColumns, sound}
-use Rattle.model.specs.Objects.{Content, simple, rows, recordNumber, register, Meaning, known, unknown, meaning, Service, get, action, Request, Result, granted, denied, refusalOf, methodInvoked, afterMethod, afterAction, answered, turned}
+use Rattle.model.specs.Objects.{recordNumberNamed, Content, simple, rows, recordNumber, register, Meaning, known, unknown, meaning, Service, get, action, Request, Result, granted, denied, refusalOf, methodInvoked, afterMethod, afterAction, answered, turned}
 use Rattle.model.specs.Calls.{Lent, Call, frame, owner, OwnerCall, ownRefusal, obeyed, giveRegisters, setValue, setColumns, setPeriod, tick, setP5, powerUp, Outcome, done, Wrap, Decision, answer, serve, Protocol, decided, captured, ticked, act, early, step}
-use Rattle.model.specs.Archive.{isAction, acts, mayReset, NumberAfter, same, next, reset, NumberStays}
+use Rattle.model.specs.Archive.{onRecordNumber, renumbers, mayReset, NumberAfter, same, next, reset, NumberStays}
+use Rattle.model.proofs.ObjectLaws.{Tells, Means, meaning-tells}
 
 module _ (p : Protocol) (m : Model) where
   number-if : (c : Call) (b : Bool) (o q : Outcome) → (b ≡ true → NumberAfter p c m o) → (b ≡ false → NumberAfter p c m q) → NumberAfter p c m (cond b o q)
   number-if c true o q x y = x refl
   number-if c false o q x y = y refl
 
-  -- after an ACTION: as it was, or 0 where it was granted
-  method-number : (c : Call) (o : Outcome) (x : Content) → mayReset p c (m .line) ≡ true → o .refusal ≡ 0 → o .next .body ≡ afterMethod x (m .body) → NumberAfter p c m o
-  method-number c o (simple y) k z e = same (ap (λ (b : Body). b .number) e)
-  method-number c o rows k z e = same (ap (λ (b : Body). b .number) e)
-  method-number c o recordNumber k z e = reset k z (ap (λ (b : Body). b .number) e)
-  method-number c o (register r) k z e = same (ap (λ (b : Body). b .number) e)
+  -- after an ACTION that was granted: as it was, or 0 where it is on the record number
+  method-number : (c : Call) (o : Outcome) (x : Content) (n : Name) (rs : List Register) → Tells x n rs → (sameName recordNumberNamed n ≡ true → mayReset p c (m .line) ≡ true)
+      → o .refusal ≡ 0 → o .next .body ≡ afterMethod x (m .body) → NumberAfter p c m o
+  method-number c o (simple y) n rs t k z e = same (ap (λ (b : Body). b .number) e)
+  method-number c o rows n rs t k z e = same (ap (λ (b : Body). b .number) e)
+  method-number c o recordNumber n rs t k z e = reset (k t) z (ap (λ (b : Body). b .number) e)
+  method-number c o (register r) n rs t k z e = same (ap (λ (b : Body). b .number) e)
 
-  action-number : (c : Call) (o : Outcome) (w : Meaning) (r : Result) → mayReset p c (m .line) ≡ true → o .refusal ≡ refusalOf r → o .next .body ≡ afterAction w (m .body) r → NumberAfter p c m o
-  action-number c o unknown r k z e = same (ap (λ (b : Body). b .number) e)
-  action-number c o (known x) (granted d) k z e = method-number c o (x .content) k z e
-  action-number c o (known x) (denied d) k z e = same (ap (λ (b : Body). b .number) e)
+  action-number : (c : Call) (o : Outcome) (w : Meaning) (r : Result) (n : Name) (rs : List Register) → Means w n rs → (sameName recordNumberNamed n ≡ true → mayReset p c (m .line) ≡ true)
+      → o .refusal ≡ refusalOf r → o .next .body ≡ afterAction w (m .body) r → NumberAfter p c m o
+  action-number c o unknown r n rs t k z e = same (ap (λ (b : Body). b .number) e)
+  action-number c o (known x) (granted d) n rs t k z e = method-number c o (x .content) n rs t k z e
+  action-number c o (known x) (denied d) n rs t k z e = same (ap (λ (b : Body). b .number) e)
 
-  served-number : (a : Lent) (q : Request) (v : Service) (u : Meaning) (w : Wrap) (l : Line) (o : Outcome) → (p .decide) (m .line) a ≡ serve q w l → q .service ≡ v
-      → o .refusal ≡ answered q (m .body) u v .refusal → o .next .body ≡ answered q (m .body) u v .body → NumberAfter p (frame a) m o
-  served-number a q (get k s) u w l o d e z f = same (ap (λ (b : Body). b .number) f)
-  served-number a q (action k v) u w l o d e z f = action-number (frame a) o u (methodInvoked q k v u) (ap acts d ∙ ap isAction e) z f
+  served-number : (a : Lent) (q : Request) (v : Service) (w : Wrap) (l : Line) (o : Outcome) → (p .decide) (m .line) a ≡ serve q w l → q .service ≡ v
+      → o .refusal ≡ answered q (m .body) (meaning (q .client) (q .name) (m .body .store .registers)) v .refusal
+      → o .next .body ≡ answered q (m .body) (meaning (q .client) (q .name) (m .body .store .registers)) v .body → NumberAfter p (frame a) m o
+  served-number a q (get k s) w l o d e z f = same (ap (λ (b : Body). b .number) f)
+  served-number a q (action k v) w l o d e z f =
+      action-number (frame a) o (meaning (q .client) (q .name) (m .body .store .registers)) (methodInvoked q k v (meaning (q .client) (q .name) (m .body .store .registers)))
+      (q .name) (m .body .store .registers) (meaning-tells (q .client) (q .name) (m .body .store .registers))
+      (λ h. ap renumbers d ∙ ap (onRecordNumber (q .name)) e ∙ h) z f
 
   owner-number : (o : OwnerCall) → NumberAfter p (owner o) m (done (obeyed o m))
   unfolding ticked captured
@@ -54,7 +64,7 @@ module _ (p : Protocol) (m : Model) where
       go : (d : Decision) → (p .decide) (m .line) a ≡ d → NumberAfter p (frame a) m (decided p d m)
       go (answer s) e = same refl
       go (serve q w l) e =
-          served-number a q (q .service) (meaning (q .client) (q .name) (m .body .store .registers)) w l (decided p (serve q w l) m) e refl refl refl
+          served-number a q (q .service) w l (decided p (serve q w l) m) e refl refl refl
   act-number (owner o) = number-if (owner o) (eqb (ownRefusal o m) 0) _ _ (λ _. owner-number o) (λ _. same refl)
 
 pub number-stays : (p : Protocol) → NumberStays p

@@ -14,7 +14,7 @@ use Rattle.model.specs.Clocks.{validClock}
 use Rattle.model.specs.Periods.{listed, captureDue}
 use Rattle.model.specs.State.{Line, Entry, Body, Model, newMeter}
 use Rattle.model.specs.Soundness.{kindsKnown, linksStand, servicesOffered, sound}
-use Rattle.model.specs.Objects.{profileNamed, Service, get, action}
+use Rattle.model.specs.Objects.{profileNamed, recordNumberNamed, Service, get, action}
 use Rattle.model.specs.Calls.{Lent, Call, frame, owner, OwnerCall, giveRegisters, setValue, setColumns, setPeriod, tick, setP5, powerUp, Outcome, refused, Decision, answer, serve, Protocol, step}
 
 -- Rows.
@@ -76,15 +76,16 @@ pub data RowsAfter (p : Protocol) (c : Call) (m : Model) (o : Outcome) : Type 0 
 abbrev pub RowsStay : Protocol → Type 0
 RowsStay p = (c : Call) (m : Model) → RowsAfter p c m (step p c m)
 
--- The record number: it stays; or it grows by one, at a due tick; or it is set to 0, by power-up or an accepted ACTION.
+-- The record number: it stays; or it grows by one, at a due tick; or it is set to 0, by power-up or an accepted ACTION on the
+-- record number object.
 
-abbrev pub isAction : Service → Bool
-isAction (get a s) = false
-isAction (action k v) = true
+abbrev pub onRecordNumber : Name → Service → Bool
+onRecordNumber n (get a s) = false
+onRecordNumber n (action k v) = sameName recordNumberNamed n
 
-abbrev pub acts : Decision → Bool
-acts (answer s) = false
-acts (serve q w l) = isAction (q .service)
+abbrev pub renumbers : Decision → Bool
+renumbers (answer s) = false
+renumbers (serve q w l) = onRecordNumber (q .name) (q .service)
 
 abbrev pub ownerResets : OwnerCall → Bool
 ownerResets (giveRegisters rs) = false
@@ -96,7 +97,7 @@ ownerResets (setP5 f) = false
 ownerResets powerUp = true
 
 abbrev pub mayReset : Protocol → Call → Line → Bool
-mayReset p (frame a) l = acts ((p .decide) l a)
+mayReset p (frame a) l = renumbers ((p .decide) l a)
 mayReset p (owner o) l = ownerResets o
 
 pub data NumberAfter (p : Protocol) (c : Call) (m : Model) (o : Outcome) : Type 0 where
