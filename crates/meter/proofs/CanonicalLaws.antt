@@ -1,17 +1,21 @@
 -- A meter whose halves are cleared; and specs/Canonical's statement, proved.
 use mathlib.Core.Path.{_≡_, sym, ap, _∙_}
+use mathlib.Core.List.{List}
+use Prim.Native.Nat.{ℕ}
+use Rattle.model.specs.State.{newMeter}
 use Rattle.model.specs.Soundness.{sound}
 use Rattle.model.proofs.ListLaws.{both}
+use Rattle.model.proofs.StaySound.{new-meter-sound}
 use Rattle.line.specs.declared.LineState.{LineState}
-use Rattle.line.specs.View.{lineOf, lineSound}
+use Rattle.line.specs.View.{lineOf, lineSound, newLine}
 use Rattle.line.specs.Canonical.{clearedLine}
 use Rattle.line.proofs.ClearLaws.{line-same, line-canonical}
 use Rattle.body.specs.declared.BodyState.{BodyState}
-use Rattle.body.specs.View.{bodyOf, bodySound}
+use Rattle.body.specs.View.{bodyOf, bodySound, newBody}
 use Rattle.body.specs.Canonical.{ClearsBody}
 use Rattle.meter.specs.declared.Meter.{Meter}
 use Rattle.meter.specs.View.{view}
-use Rattle.meter.specs.Canonical.{clearedMeter, canonical, Cleared, SameOnceCleared}
+use Rattle.meter.specs.Canonical.{clearedMeter, canonical, Cleared, Fresh, SameOnceCleared}
 use Rattle.meter.proofs.MeterLaws.{sound-is}
 
 pub meter-clear : (m : Meter) (l : LineState) (b : BodyState) → l ≡ clearedLine (m .line) → ClearsBody (m .body) b → Cleared m (record { line = l; body = b })
@@ -24,6 +28,16 @@ meter-clear m l b e p =
       canonical = λ s.
           let body = both (bodySound (bodyOf (m .body))) (lineSound (lineOf (m .line))) (sym (sound-is m) ∙ s) .0 in
           λ i. record { line = (e ∙ line-canonical (m .line)) i; body = p .canonical body i };
+    }
+
+-- a new meter, cleared
+pub fresh : (d t v h : List ℕ) {l : LineState} {b : BodyState} {r : Meter} → lineOf l ≡ newLine t v h → bodyOf b ≡ newBody d → Cleared (record { line = l; body = b }) r → Fresh (newMeter d t v h) r
+unfolding view newMeter
+fresh d t v h {l} {b} e p k =
+    let made : view (record { line = l; body = b }) ≡ newMeter d t v h = λ i. record { line = e i; body = p i } in
+    record {
+      is = k .canonical (ap sound made ∙ new-meter-sound d t v h) ∙ ap canonical made;
+      holds = k .same ∙ made;
     }
 
 pub same-once-cleared : SameOnceCleared

@@ -23,6 +23,11 @@ pub record Cleared (m r : Meter) : Type 0 where
   pub same : view r ≡ view m
   pub canonical : sound (view m) ≡ true → r ≡ canonical (view m)
 
+-- what making a new meter promises: it is the one meter that holds just this, and so every byte of it is fixed
+pub record Fresh (n : Model) (r : Meter) : Type 0 where
+  pub is : r ≡ canonical n
+  pub holds : view r ≡ n
+
 -- Two sound meters that hold the same are the same once cleared. Proved in proofs/CanonicalLaws.
 abbrev pub SameOnceCleared : Type 0
 SameOnceCleared = (m₁ m₂ r₁ r₂ : Meter) → sound (view m₁) ≡ true → view m₁ ≡ view m₂ → Cleared m₁ r₁ → Cleared m₂ r₂ → r₁ ≡ r₂

@@ -16,7 +16,7 @@ ghost use Rattle.model.specs.Soundness.{sound};
 ghost use Rattle.model.specs.Calls.{OwnerCall};
 ghost use Rattle.store.specs.Lists.{held};
 ghost use Rattle.meter.specs.View.{view};
-ghost use Rattle.meter.specs.Canonical.{Cleared};
+ghost use Rattle.meter.specs.Canonical.{Cleared, Fresh};
 ghost use Rattle.meter.specs.Promise.{Owned, PoweredUp, changed};
 
 pub struct Meter {
@@ -43,13 +43,14 @@ pub fn is_sound(meter: Meter) -> bool
 }
 
 impl Meter {
-    // A new meter: its name and titles are taken as given, and all else is empty.
+    // A new meter: its name and titles are taken as given, all else is empty, and there are zeros wherever it holds nothing.
     pub fn new(device: [u8; 16], title: [u8; 8], verification: [u8; 8], han: [u8; 8]) -> Meter
-        ensures { λ r. ⌜ view r ≡ newMeter device title verification han ⌝ }
+        ensures { λ r. ⌜ Fresh (newMeter device title verification han) r ⌝ }
     {
         let l = line::new_line(title, verification, han);
         let b = body::new_body(device);
-        Meter { line: l, body: b }
+        let m = Meter { line: l, body: b };
+        m.cleared()
     }
 
     // Registers are given anew; columns and rows are emptied. Refusals 3 and 16.

@@ -82,7 +82,8 @@ abbrev pub SameAssociations : Line → Line → Type 0
 SameAssociations l n = (c : Client) → peer c n .association ≡ peer c l .association
 
 -- the frame call: the model's promise at this protocol; where the meter is unchanged, the very meter comes back; and nothing is
--- left of an association that ended, or of challenges that were answered
+-- left of an association that ended, or of challenges that were answered. For 0, 7, 12 and 13 all else that the view does not show is
+-- free: the places above a count, and the fields of an association that was over before
 pub record Answered (a : Lent) (m : Meter) (l o : List ℕ) (r : Received) : Type 0 where
   pub promised : Promised Meter view p2 (frame a) m (handed r l o)
   pub kept : listed (r .refusal) keeping ≡ true → r .meter ≡ m

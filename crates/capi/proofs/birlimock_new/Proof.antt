@@ -35,7 +35,7 @@ returns-3 c =
     let a = s .args in
     let none = sym (at-argument-refusal .argument-refusal .ensures ∙ ap argumentRefusal (at-are-sized .are-sized .ensures)) ∙ at-if2 .if2 .left in
     let given = new-given (a .device .now) (a .title .now) (a .v-title .now) (a .h-title .now) none (at-sixteen-of .sixteen-of .ensures) (at-eight-of .eight-of .ensures) (at-eight-of2 .eight-of2 .ensures) (at-eight-of3 .eight-of3 .ensures) in
-    new-called (at-if1 .if1 .left ∙ sym (sizes .image-size)) none (at-new .new .ensures ∙ given) (at-cleared .cleared .ensures) (at-write-image .write-image .ensures)
+    new-called (at-if1 .if1 .left ∙ sym (sizes .image-size)) none (at-new .new .ensures .holds ∙ given) (at-cleared .cleared .ensures) (at-write-image .write-image .ensures)
 
 pub birlimock-new-spec : {M : Type 1} → statement M
 birlimock-new-spec =
