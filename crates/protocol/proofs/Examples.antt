@@ -1,11 +1,8 @@
 -- The table is of the fourteen marked examples, and all of them hold, by computation.
-use mathlib.Core.Path.{_≡_, refl}
-use mathlib.Core.Bool.{true}
-use mathlib.Core.List.{map}
+use mathlib.Core.Path.{refl}
 use Rattle.gf2.specs.Shift.{step as shift, steps}
 use Rattle.wire.specs.Reading.{sameBytes}
 use Rattle.fcs.specs.Check.{checkOf, checkFrom, checkByte, polynomial}
-use Rattle.model.specs.Names.{every}
 use Rattle.model.specs.Limits.{longestSent, longestReceived, replyRoom, greatestLength, maxRows, maxRegisters, maxColumns}
 use Rattle.model.specs.Clocks.{februaryDays, daysIn, realDate, realTime, fixedBytes, validClock}
 use Rattle.model.specs.Periods.{periods}
@@ -19,12 +16,12 @@ use Rattle.hdlc.specs.Tests.{firstFailing}
 use Rattle.hdlc.specs.Reading.{refused, accepted, readFrame}
 use Rattle.counters.specs.Window.{inWindow}
 use Rattle.protocol.specs.Decide.{linkUp, linkDown, ruled, decide}
-use Rattle.protocol.specs.Examples.{numberedFrom, Example, examples}
+use Rattle.protocol.specs.Examples.{examples, ExamplesNumbered, ExamplesHold}
 
-pub examples-numbered : map (λ (e : Example). e .number) examples ≡ numberedFrom 14 1
+pub examples-numbered : ExamplesNumbered
 unfolding examples
 examples-numbered = refl
 
-pub examples-hold : every (λ i e. e .holds) 0 examples ≡ true
+pub examples-hold : ExamplesHold
 unfolding examples shift steps sameBytes checkOf checkFrom checkByte polynomial longestSent longestReceived replyRoom greatestLength maxRows maxRegisters maxColumns februaryDays daysIn realDate realTime fixedBytes validClock periods newMeter acceptedRegisters acceptedColumns sound entriesWrong entries lentRefusal act step formatOf hcsOf informationOf fcsOf headBytes checked flagged frameOf senderOf firstFailing refused accepted readFrame inWindow linkUp linkDown ruled decide
 examples-hold = refl

@@ -1,12 +1,14 @@
--- The fourteen marked examples of document 01, as one table; proofs/Examples shows that its numbers are 1 to 14, in order, and
--- that all of them hold.
-use mathlib.Core.Bool.{Bool, false, not}
+-- The fourteen marked examples of document 01, as one table: its numbers are 1 to 14, in order (`ExamplesNumbered`), and all of
+-- them hold (`ExamplesHold`). Both are proved in proofs/Examples, by computation.
+use mathlib.Core.Path.{_≡_}
+use mathlib.Core.Bool.{Bool, true, false, not}
 use mathlib.Core.List.{List, [], _∷_, map}
 use Prim.Native.Nat.{ℕ, zero, suc}
 use lib.Dec.{eqb}
 use lib.ListN.{replicate}
 use Rattle.wire.specs.Reading.{sameBytes}
 use Rattle.fcs.specs.Check.{checkOf}
+use Rattle.model.specs.Names.{every}
 use Rattle.model.specs.Limits.{longestSent, replyRoom, maxRows}
 use Rattle.model.specs.State.{Entry, newClock, newMeter}
 use Rattle.model.specs.Objects.{Picked, these, wrong, entries}
@@ -68,3 +70,9 @@ examples =
     ∷ example 13 (refusedBy 13 (entries 16 0 fifteenRows))
     ∷ example 14 (eqb (nextNumber 65535) 0)
     ∷ []
+
+abbrev pub ExamplesNumbered : Type 0
+ExamplesNumbered = map (λ (e : Example). e .number) examples ≡ numberedFrom 14 1
+
+abbrev pub ExamplesHold : Type 0
+ExamplesHold = every (λ i e. e .holds) 0 examples ≡ true
