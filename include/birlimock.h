@@ -11,7 +11,8 @@
  * overlaps nothing else that it is lent, and no other thread touches what is lent until the call returns. No buffer
  * needs an alignment.
  *
- * What a call answers: 0, or the number of a refusal: of the library's own first, 101 to 104, then of document 01's. An
+ * What a call answers: 0, or the number of a refusal: of document 01's where it has one for the fault, or one of the library's
+ * own, 101, 102 and 104. An
  * owner's call that is refused writes nothing. A frame call writes the whole state buffer, changed or not, where it answers 0,
  * 7, 12 or 13, and else nothing of it. What is written has zeros wherever the meter holds nothing: in registers, columns and rows
  * above their counts, and in the keys, challenges and services of associations that are over. So two buffers that were written
@@ -66,11 +67,10 @@ extern "C" {
 #define BIRLIMOCK_NO_REGISTER 17
 #define BIRLIMOCK_BAD_COLUMNS 18
 
-/* The library's own refusals: the first that applies, before those above. */
+/* The library's own refusals, of what document 01 does not know: 101 and 102 come before those above. */
 #define BIRLIMOCK_WRONG_STATE_SIZE 101  /* the state buffer has another length than BIRLIMOCK_STATE_SIZE */
 #define BIRLIMOCK_WRONG_VERSION 102     /* its first byte is not the version of this layout */
-#define BIRLIMOCK_NO_STATE 103          /* a flag in it is neither 0 nor 1, or a phase is above 2 */
-#define BIRLIMOCK_WRONG_ARGUMENT 104    /* an owner's argument has a wrong length, or a flag in it is neither 0 nor 1 */
+#define BIRLIMOCK_WRONG_ARGUMENT 104    /* a new meter's argument has a wrong length, or a flag is neither 0 nor 1 */
 
 /* How many bytes a state buffer has: compare it with BIRLIMOCK_STATE_SIZE once, to see that header and library fit. */
 size_t birlimock_state_size(void);
@@ -84,22 +84,23 @@ uint8_t birlimock_new(uint8_t *state, size_t state_len,
                       const uint8_t *v_title, size_t v_title_len,
                       const uint8_t *h_title, size_t h_title_len);
 
-/* The owner's calls. Refusals of each: 101, 102, 103; then 104 where it is lent bytes or a flag; then 3, the state is
- * unsound (lists, period or clocks that the calls below would refuse, more than 15 rows, cells that are not one for each column,
- * an association on a link that is down or with services that were not offered); then its own. Each writes the whole state
+/* The owner's calls. Refusals of each: 101, 102; then 3, the state is unsound (a flag that is neither 0 nor 1, a phase above 2, lists, period or clocks that the calls below would refuse, more than 15 rows, cells that are not one for each column,
+ * an association of a kind that the client cannot have, on a link that is down or with services that were not offered); then its own. Each writes the whole state
  * buffer where it answers 0, and else nothing. */
 
-/* Registers are given anew, from whole records; columns and rows are emptied. Own refusal: 16, more than 16, a name twice, or a
+/* Registers are given anew, from whole records; columns and rows are emptied. Own refusal: 16, no whole records, a flag in one that is
+ * neither 0 nor 1, more than 16, a name twice, or a
  * name of the meter's own objects (0.0.1.0.0.255, 1.0.0.9.1.255, 1.0.0.9.2.255, 0.0.42.0.0.255, 0.0.21.0.6.255,
  * 0.0.96.15.3.255, 0.0.40.0.4.255). */
 uint8_t birlimock_give_registers(uint8_t *state, size_t state_len,
                                  const uint8_t *registers, size_t registers_len);
 
-/* The value of the register of this name (6 bytes) is set. Own refusal: 17, no such register. */
+/* The value of the register of this name (6 bytes) is set. Own refusal: 17, no such register, or a name of another
+ * length. */
 uint8_t birlimock_set_value(uint8_t *state, size_t state_len,
                             const uint8_t *name, size_t name_len, uint32_t value);
 
-/* The columns of the profile are set, from whole names; rows are emptied. Own refusal: 18, a name that no register bears, a
+/* The columns of the profile are set, from whole names; rows are emptied. Own refusal: 18, no whole names, a name that no register bears, a
  * name twice, or more than 16. */
 uint8_t birlimock_set_columns(uint8_t *state, size_t state_len,
                               const uint8_t *names, size_t names_len);
@@ -108,12 +109,12 @@ uint8_t birlimock_set_columns(uint8_t *state, size_t state_len,
 uint8_t birlimock_set_period(uint8_t *state, size_t state_len, uint32_t period);
 
 /* The clock moves on, and a row is taken where minutes times 60 plus seconds divide by the period. Its 12 bytes: year (2,
- * high byte first, 2000 to 2099), month, day, FF, hour, minute, second, FF, 80 00 00. Own refusal: 14, other bytes, or no real
+ * high byte first, 2000 to 2099), month, day, FF, hour, minute, second, FF, 80 00 00. Own refusal: 14, other bytes or another number of them, or no real
  * date and time. */
 uint8_t birlimock_tick(uint8_t *state, size_t state_len,
                        const uint8_t *clock, size_t clock_len);
 
-/* The P5 flag, which keeps V from linking: 1 sets it, 0 clears it, any other number is refused by 104. */
+/* The P5 flag, which keeps V from linking: 1 sets it, 0 clears it, any other number is refused by 104, after 3. */
 uint8_t birlimock_set_p5(uint8_t *state, size_t state_len, uint32_t held);
 
 /* Power-up: links and associations end; counters, rows and record number are cleared. To be called after every start. */
@@ -121,7 +122,7 @@ uint8_t birlimock_power_up(uint8_t *state, size_t state_len);
 
 /* The frame call: a frame was received. Lent are GUK and AK (16 bytes each), a challenge of 8 bytes that the caller draws
  * anew for each call, and room for the reply, BIRLIMOCK_REPLY_ROOM bytes or more.
- * Refusals: 101, 102, 103; then 1, 2, 3; then one of 4 to 13. Writes: *sent, how many bytes of the reply room go out, 0 where
+ * Refusals: 101, 102; then 1, 2, 3; then one of 4 to 13. Writes: *sent, how many bytes of the reply room go out, 0 where
  * nothing goes out; these bytes of the reply room and no others; the state buffer as said above. A refusal may have a reply,
  * too: send what *sent counts, whatever the number is. */
 uint8_t birlimock_receive(uint8_t *state, size_t state_len,

@@ -10,7 +10,8 @@ const VERSION: u8 = 1;
 
 pub const WRONG_SIZE: u8 = 101;
 pub const WRONG_VERSION: u8 = 102;
-pub const NO_STATE: u8 = 103;
+/// A byte that no meter has: document 01's number for a state that is not sound.
+pub const NO_STATE: u8 = 3;
 
 const REGISTERS: usize = 16;
 const COLUMNS: usize = 16;

@@ -23,7 +23,7 @@ pub enum Call {
 /// What a state buffer is to the library.
 #[derive(Clone, Debug, PartialEq)]
 pub enum State {
-    /// No state: by the refusal 101, 102 or 103.
+    /// No state: by the refusal 101, 102 or 3.
     Refused(u8),
     Held(Box<Meter>),
 }
@@ -49,7 +49,7 @@ impl State {
             return self.renew(new_meter(device, title, v_title, h_title));
         }
         match self {
-            State::Refused(refusal) => Outcome::silent(*refusal, refused_event(*refusal)),
+            State::Refused(refusal) => no_state_answer(*refusal, call),
             State::Held(meter) => held_answer(meter, call),
         }
     }
@@ -75,6 +75,27 @@ fn refused_event(refusal: u8) -> &'static str {
     }
 }
 
+/// A frame call tests what it is lent before a byte that no meter has.
+fn no_state_answer(refusal: u8, call: &Call) -> Outcome {
+    if let (NO_STATE, Call::Receive { guk, authentication, challenge, room, .. }) = (refusal, call) {
+        if let Some(refused) = (Lent { guk, authentication, challenge, room: *room }).refusal() {
+            return refused;
+        }
+    }
+    Outcome::silent(refusal, refused_event(refusal))
+}
+
+/// The number of an argument that cannot be taken: document 01's where it knows the fault.
+fn fault(call: &Call) -> u8 {
+    match call {
+        Call::Tick(_) => 14,
+        Call::GiveRegisters(_) => 16,
+        Call::SetValue(..) => 17,
+        Call::SetColumns(_) => 18,
+        _ => WRONG_ARGUMENT,
+    }
+}
+
 fn new_meter(device: &[u8], title: &[u8], v_title: &[u8], h_title: &[u8]) -> Option<Meter> {
     let [title, v_title, h_title] = [title, v_title, h_title].map(|title| title.try_into().ok());
     Some(Meter::new(device.try_into().ok()?, title?, v_title?, h_title?))
@@ -85,7 +106,8 @@ fn held_answer(meter: &mut Meter, call: &Call) -> Outcome {
         return meter.receive(frame, &Lent { guk, authentication, challenge, room: *room });
     }
     match owner_call(meter, call) {
-        None => Outcome::silent(WRONG_ARGUMENT, refused_event(WRONG_ARGUMENT)),
+        None if meter.is_sound() => Outcome::silent(fault(call), refused_event(WRONG_ARGUMENT)),
+        None => Outcome::silent(3, "owner's call refused"),
         Some(0) => Outcome::silent(0, "owner's call accepted"),
         Some(refusal) => Outcome::silent(refusal, "owner's call refused"),
     }

@@ -76,15 +76,26 @@ impl Lent<'_> {
             challenge: self.challenge.try_into().ok()?,
         })
     }
+
+    /// Refusals 1 and 2, before the state is looked at.
+    pub fn refusal(&self) -> Option<Outcome> {
+        if self.room < frame::LONGEST_FRAME {
+            return Some(Outcome::silent(1, "reply room too short"));
+        }
+        if self.keys().is_none() {
+            return Some(Outcome::silent(2, "lent lengths wrong"));
+        }
+        None
+    }
 }
 
 impl Meter {
     /// The frame call.
     pub fn receive(&mut self, bytes: &[u8], lent: &Lent) -> Outcome {
-        if lent.room < frame::LONGEST_FRAME {
-            return Outcome::silent(1, "reply room too short");
+        if let Some(refused) = lent.refusal() {
+            return refused;
         }
-        let Some(keys) = lent.keys() else { return Outcome::silent(2, "lent lengths wrong") };
+        let keys = lent.keys().expect("the lent lengths are right");
         if !self.is_sound() {
             return Outcome::silent(3, "state unsound");
         }

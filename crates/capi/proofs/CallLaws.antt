@@ -1,7 +1,7 @@
 -- The ends of a call of the library: refused by the library itself, or made on the meter in the buffer.
 use mathlib.Core.Path.{_≡_, refl, sym, subst, ap, _∙_}
-use mathlib.Core.Bool.{Bool, true, false, _&&_, and-eq-true-iff}
-use mathlib.Core.List.{List}
+use mathlib.Core.Bool.{Bool, true, false, cond, _&&_, and-eq-true-iff}
+use mathlib.Core.List.{List, []}
 use Prim.Native.Nat.{ℕ, zero, suc, _≤_, _<_}
 use native.Mathlib.Omega.{arith}
 use lib.Dec.{eqb, ltb}
@@ -14,7 +14,7 @@ use Rattle.model.specs.declared.Clock.{Clock}
 use Rattle.model.specs.Periods.{listed}
 use Rattle.model.specs.State.{Model, newMeter}
 use Rattle.model.specs.Soundness.{sound}
-use Rattle.model.specs.Calls.{Lent, OwnerCall, Call, frame, owner, Outcome, early, step}
+use Rattle.model.specs.Calls.{Lent, lentRefusal, OwnerCall, Call, frame, owner, Outcome, early, step}
 use Rattle.model.specs.Demand3.{Promised}
 use Rattle.model.proofs.StaySound.{new-meter-sound}
 use Rattle.meter.specs.declared.Meter.{Meter}
@@ -27,7 +27,7 @@ use Rattle.protocol.specs.Outcomes.{keeping}
 use Rattle.protocol.proofs.Claim.{p2-stays-sound}
 use Rattle.protocol.proofs.Outcomes.{row-lent}
 use Rattle.p2.specs.declared.Received.{Received}
-use Rattle.p2.specs.Promise.{Answered, handed as received}
+use Rattle.p2.specs.Promise.{lent, Answered, handed as received}
 use Rattle.p2.proofs.Endings.{filled-whole}
 use Rattle.image.specs.declared.ImageRead.{ImageRead}
 use Rattle.image.specs.declared.Status.{Status}
@@ -37,19 +37,37 @@ use Rattle.image.proofs.ImageLaws.{passed, in-meter}
 use Rattle.image_write.specs.declared.Written.{Written}
 use Rattle.image_write.specs.Writing.{Writes}
 use Rattle.image_write.proofs.WritesLaws.{done}
-use Rattle.capi.specs.Refusals.{ownRefusal, newRefusal, newSized, argumentRefusal, sized}
-use Rattle.capi.specs.Promises.{imageFor, after, Stores, NewCalled, Owns, OwnerCalled, Ends, Receives, FrameCalled, FrameEnds}
+use Rattle.capi.specs.Refusals.{notSound, faultRefusal, ownRefusal, lentOrState, frameRefusal, newRefusal, newSized, argumentRefusal, sized}
+use Rattle.capi.specs.Lending.{LentOwner, registers, value, columns, period, clock, p5, powered, takenArguments, fault, ownerOf}
+use Rattle.capi.specs.Promises.{imageFor, after, Stores, NewCalled, Owns, refusalFor, OwnerCalled, Ends, Receives, FrameCalled, FrameEnds}
 
 -- no refusal of the library's own: the image is whole, and the arguments are taken
 taken-argument : (good : Bool) → argumentRefusal good ≡ 0 → good ≡ true
 taken-argument true e = refl
 taken-argument false e = absurd (omega arith)
 
-own-none : (t : Status) (good : Bool) → ownRefusal t good ≡ 0 → (t ≡ Whole) × (good ≡ true)
-own-none Whole good e = (refl, taken-argument good e)
-own-none WrongLength good e = absurd (omega arith)
-own-none WrongVersion good e = absurd (omega arith)
-own-none NoImage good e = absurd (omega arith)
+own-none : (t : Status) (good y : Bool) (k : ℕ) → (k ≡ 0 → ⊥) → ownRefusal t good y k ≡ 0 → (t ≡ Whole) × (good ≡ true)
+own-none Whole true y k h e = (refl, refl)
+own-none Whole false true k h e = absurd (h e)
+own-none Whole false false k h e = absurd (omega arith)
+own-none WrongLength good y k h e = absurd (omega arith)
+own-none WrongVersion good y k h e = absurd (omega arith)
+own-none NoImage good y k h e = absurd (omega arith)
+
+-- every fault has a number
+pub fault-some : (c : LentOwner) → fault c ≡ 0 → ⊥
+fault-some (registers s) e = omega arith
+fault-some (value n v) e = omega arith
+fault-some (columns s) e = omega arith
+fault-some (period d) e = omega arith
+fault-some (clock t) e = omega arith
+fault-some (p5 h) e = omega arith
+fault-some powered e = omega arith
+
+-- the frame is no part of what is tested before the state
+pub lent-same : (n : ℕ) (g k c f : List ℕ) → lentRefusal (lent n g k c []) ≡ lentRefusal (lent n g k c f)
+unfolding lentRefusal
+lent-same n g k c f = refl
 
 -- which refusals leave the meter unchanged
 keeping-below : (n : ℕ) → (n ≡ 0 → ⊥) → (n ≡ 7 → ⊥) → n < 12 → true ≡ listed n keeping
@@ -143,22 +161,28 @@ made {c} {s} {e} {n} {r} o w d =
     go zero q = let t = there q in (t .holds ∙ given .meter, t .status)
     go (suc k) q = left (λ h. omega arith)
 
-own : {good b : Bool} (s : List ℕ) {n : ℕ} → b ≡ good → n ≡ ownRefusal (statusOf s) b → n ≡ ownRefusal (statusOf s) good
-own s g e = e ∙ ap (ownRefusal (statusOf s)) g
+-- the refusal by a status: of a whole image by the meter in it
+pub own-whole : (s : List ℕ) (good : Bool) (k : ℕ) {n : ℕ} → statusOf s ≡ Whole → n ≡ faultRefusal good (sound (view (meterIn s))) k → n ≡ ownRefusal (statusOf s) good (sound (view (meterOf s))) k
+own-whole s good k w e =
+    e ∙ ap (λ (m : Meter). faultRefusal good (sound (view m)) k) (read-meter s w refl)
+    ∙ ap (λ (t : Status). ownRefusal t good (sound (view (meterOf s))) k) (sym w)
 
-module _ {good b : Bool} {c : OwnerCall} {s : List ℕ} {n : ℕ} (g : b ≡ good) (e : n ≡ ownRefusal (statusOf s) b) where
-  pub owner-refused : (n ≡ 0 → ⊥) → OwnerCalled good c s s n
+own : (c : LentOwner) (s : List ℕ) {b : Bool} {n : ℕ} → b ≡ takenArguments c → n ≡ ownRefusal (statusOf s) b (sound (view (meterOf s))) (fault c) → n ≡ refusalFor c s
+own c s g e = e ∙ ap (λ (b : Bool). ownRefusal (statusOf s) b (sound (view (meterOf s))) (fault c)) g
+
+module _ {b : Bool} {s : List ℕ} {n : ℕ} (c : LentOwner) (g : b ≡ takenArguments c) (e : n ≡ ownRefusal (statusOf s) b (sound (view (meterOf s))) (fault c)) where
+  pub owner-refused : (n ≡ 0 → ⊥) → OwnerCalled c s s n
   owner-refused h =
-      let q : n ≡ ownRefusal (statusOf s) good = own s g e in
+      let q : n ≡ refusalFor c s = own c s g e in
       record { refused = λ _. q; called = λ z. absurd (h (q ∙ z)); kept = λ _. refl }
 
-  pub owner-called : {m : Meter} {r : Changed} {f : List ℕ} {k : ℕ} → n ≡ 0 → m ≡ meterIn s → (good ≡ true → Owned c m r) → Ends r s f k → OwnerCalled good c s f k
+  pub owner-called : {m : Meter} {r : Changed} {f : List ℕ} {k : ℕ} → n ≡ 0 → m ≡ meterIn s → (takenArguments c ≡ true → Owned (ownerOf c) m r) → Ends r s f k → OwnerCalled c s f k
   owner-called {r = r} z i o d =
-      let y : ownRefusal (statusOf s) good ≡ 0 = sym (own s g e) ∙ z in
-      let w = own-none (statusOf s) good y in
+      let y : refusalFor c s ≡ 0 = sym (own c s g e) ∙ z in
+      let w = own-none (statusOf s) (takenArguments c) (sound (view (meterOf s))) (fault c) (fault-some c) y in
       record {
         refused = λ h. absurd (h y);
-        called = λ _. made (subst (λ (m : Meter). Owned c m r) (read-meter s (w .0) i) (o (w .1))) (w .0) d;
+        called = λ _. made (subst (λ (m : Meter). Owned (ownerOf c) m r) (read-meter s (w .0) i) (o (w .1))) (w .0) d;
         kept = d .kept;
       }
 
@@ -169,6 +193,20 @@ pub ends-written : {r : Changed} {m : Meter} {s e : List ℕ} {w : Written} → 
 ends-written z k w = record { number = sym z; stored = λ long y _. stored k w long y; kept = λ h. absurd (h refl) }
 
 -- Frame calls.
+
+-- no refusal of the library's own: the image is whole
+lent-some : (k : ℕ) → lentOrState k ≡ 0 → ⊥
+lent-some k = go (eqb k 0) refl
+  where
+    go : (b : Bool) → eqb k 0 ≡ b → cond b notSound k ≡ 0 → ⊥
+    go true p e = omega arith
+    go false p e = true-false (sym (eq-eqb k 0 e) ∙ p)
+
+frame-none : (t : Status) (k : ℕ) → frameRefusal t k ≡ 0 → t ≡ Whole
+frame-none Whole k e = refl
+frame-none WrongLength k e = absurd (omega arith)
+frame-none WrongVersion k e = absurd (omega arith)
+frame-none NoImage k e = absurd (lent-some k e)
 
 -- a frame call that changes the meter was made on a sound one
 changed-sound : (a : Lent) (m : Model) → listed (step p2 (frame a) m .refusal) keeping ≡ false → sound m ≡ true
@@ -205,22 +243,23 @@ heard {a} {s} {e} {l} {o} {n} {r} v w d =
         (ap (λ (x : List ℕ). view (meterOf x)) k ∙ ap view (sym same) ∙ given .meter, ap statusOf k ∙ w)
     go false q = let t = there q in (t .holds ∙ given .meter, t .status)
 
-module _ {a : Lent} {s l : List ℕ} {n : ℕ} (e : n ≡ ownRefusal (statusOf s) true) where
+module _ (a : Lent) {s l : List ℕ} {n x : ℕ} (i : x ≡ lentRefusal a) (e : n ≡ frameRefusal (statusOf s) x) where
   pub frame-refused : (n ≡ 0 → ⊥) → FrameCalled a s s l l 0 n
   frame-refused h =
+      let told : n ≡ frameRefusal (statusOf s) (lentRefusal a) = e ∙ ap (frameRefusal (statusOf s)) i in
       record {
-        refused = λ _. (e, record { state = refl; count = refl; room = refl });
-        called = λ z. absurd (h (e ∙ z));
+        refused = λ _. (told, record { state = refl; count = refl; room = refl });
+        called = λ z. absurd (h (told ∙ z));
         kept = λ _. refl;
       }
 
   pub frame-called : {m : Meter} {r : Received} {f o : List ℕ} {k : ℕ} → n ≡ 0 → m ≡ meterIn s → Answered a m l o r → FrameEnds r s f k → FrameCalled a s f l o (r .count) k
-  frame-called {r = r} {o = o} z i v d =
-      let y : ownRefusal (statusOf s) true ≡ 0 = sym e ∙ z in
-      let w = own-none (statusOf s) true y .0 in
+  frame-called {r = r} {o = o} z j v d =
+      let y : frameRefusal (statusOf s) (lentRefusal a) ≡ 0 = sym (e ∙ ap (frameRefusal (statusOf s)) i) ∙ z in
+      let w = frame-none (statusOf s) (lentRefusal a) y in
       record {
         refused = λ h. absurd (h y);
-        called = λ _. heard (subst (λ (m : Meter). Answered a m l o r) (read-meter s w i) v) w d;
+        called = λ _. heard (subst (λ (m : Meter). Answered a m l o r) (read-meter s w j) v) w d;
         kept = d .kept;
       }
 

@@ -6,8 +6,10 @@ use mathlib.Core.List.{List, [], _∷_, map, head-eq-of-cons-eq, tail-eq-of-cons
 use Prim.Native.Nat.{ℕ}
 use native.Mathlib.Omega.{arith}
 use lib.ListN.{length, take}
-use Rattle.model.specs.Calls.{Call, giveRegisters, setValue, owner}
+use Rattle.model.specs.Calls.{lentRefusal, Call, giveRegisters, setValue, owner}
 use Rattle.model.specs.Demand3.{Chosen, hide, hiddenOwner, hiddenCall, Alike, SameOutcome, SameOutcomes, Handed, seen, Promised}
+use Rattle.model.specs.Soundness.{sound}
+use Rattle.model.proofs.HidingLaws.{sound-hidden}
 use Rattle.meter.specs.declared.Meter.{Meter}
 use Rattle.meter.specs.View.{view}
 use Rattle.protocol.specs.Decide.{p2}
@@ -15,21 +17,36 @@ use Rattle.protocol.proofs.Claim.{p2-demand3}
 use Rattle.image.specs.declared.Status.{Status}
 use Rattle.image.specs.declared.Status.the-variants.{Whole}
 use Rattle.image.specs.Image.{meterOf, statusOf}
-use Rattle.capi.specs.Refusals.{ownRefusal}
-use Rattle.capi.specs.Runs.{LentOwner, registers, value, columns, period, clock, p5, powered, LentCall, receive, own, takenArguments, ownerOf, callOf, hiddenOwn, hiddenLent, Library, receives, owns, LibraryRuns, none, more, RefusedByArguments, LibraryDemand3}
+use Rattle.capi.specs.Refusals.{faultRefusal, ownRefusal, frameRefusal}
+use Rattle.capi.specs.Lending.{LentOwner, registers, value, columns, period, clock, p5, powered, LentCall, receive, own, takenArguments, fault, ownerOf, callOf}
+use Rattle.capi.specs.Promises.{refusalFor}
+use Rattle.capi.specs.Runs.{hiddenOwn, hiddenLent, Library, receives, owns, LibraryRuns, none, more, RefusedByArguments, LibraryDemand3}
+use Rattle.capi.proofs.CallLaws.{fault-some}
 use Rattle.capi.proofs.RecordLaws.{whole-hidden, list-hidden}
+
+-- what is refused for its arguments has a number
+fault-refuses : (y : Bool) (k : ℕ) → (k ≡ 0 → ⊥) → faultRefusal false y k ≡ 0 → ⊥
+fault-refuses true k h e = h e
+fault-refuses false k h e = omega arith
 
 -- a call that the library refuses for its arguments
 pub refused-by-arguments : RefusedByArguments
-refused-by-arguments good c s e n w g f =
-    let told : ownRefusal (statusOf s) good ≡ 104 = ap₂ ownRefusal w g in
-    let q : n ≡ 104 = f .refused (λ z. omega (arith, told)) ∙ told in
-    (q, f .kept (λ z. omega arith))
+refused-by-arguments c s e n w g f =
+    let y = sound (view (meterOf s)) in
+    let k = fault c in
+    let some : faultRefusal false y k ≡ 0 → ⊥ = fault-refuses y k (fault-some c) in
+    let told : refusalFor c s ≡ faultRefusal false y k = ap₂ (λ (t : Status) (b : Bool). ownRefusal t b y k) w g in
+    let q : n ≡ faultRefusal false y k = f .refused (λ z. some (sym told ∙ z)) ∙ told in
+    (q, f .kept (λ z. some (sym q ∙ z)))
 
 -- the arguments of a call are taken; those of a frame call are tested by the call itself
 abbrev taken : LentCall → Bool
 taken (receive a) = true
 taken (own c) = takenArguments c
+
+abbrev number : LentCall → ℕ
+number (receive a) = 0
+number (own c) = fault c
 
 -- Alike calls.
 
@@ -50,6 +67,19 @@ module _ (ch : Chosen) where
   taken-hidden : (c : LentCall) → taken c ≡ taken (hiddenLent ch c)
   taken-hidden (receive a) = refl
   taken-hidden (own c) = own-taken-hidden c
+
+  own-fault-hidden : (c : LentOwner) → fault c ≡ fault (hiddenOwn ch c)
+  own-fault-hidden (registers s) = refl
+  own-fault-hidden (value n v) = refl
+  own-fault-hidden (columns s) = refl
+  own-fault-hidden (period d) = refl
+  own-fault-hidden (clock t) = refl
+  own-fault-hidden (p5 h) = refl
+  own-fault-hidden powered = refl
+
+  number-hidden : (c : LentCall) → number c ≡ number (hiddenLent ch c)
+  number-hidden (receive a) = refl
+  number-hidden (own c) = own-fault-hidden c
 
   own-call-hidden : (c : LentOwner) → hiddenOwner ch (ownerOf c) ≡ hiddenOwner ch (ownerOf (hiddenOwn ch c))
   own-call-hidden (registers s) = ap giveRegisters (list-hidden ch s)
@@ -72,27 +102,27 @@ record Made (s e : List ℕ) (c : Call) (h : Handed Meter view) : Type 0 where
   pub again : statusOf e ≡ Whole
 
 -- it is refused for its arguments
-record Refused (s e : List ℕ) (h : Handed Meter view) : Type 0 where
-  pub refusal : h .refusal ≡ 104
+record Refused (s e : List ℕ) (c : LentCall) (h : Handed Meter view) : Type 0 where
+  pub refusal : h .refusal ≡ faultRefusal false (sound (view (meterOf s))) (number c)
   pub count : h .count ≡ 0
   pub kept : e ≡ s
 
 record Called (s e : List ℕ) (c : LentCall) (h : Handed Meter view) : Type 0 where
   pub made : taken c ≡ true → Made s e (callOf c) h
-  pub refused : taken c ≡ false → Refused s e h
+  pub refused : taken c ≡ false → Refused s e c h
   pub next : h .meter ≡ meterOf e
 
 called : (s e : List ℕ) {c : LentCall} {h : Handed Meter view} → statusOf s ≡ Whole → Library s e c h → Called s e c h
 called s e w (receives a l o k n f) =
-    let x = f .called (ap (λ (t : Status). ownRefusal t true) w) in
+    let x = f .called (ap (λ (t : Status). frameRefusal t (lentRefusal a)) w) in
     record { made = λ _. record { promised = x .promised; again = x .again }; refused = λ g. absurd (true≢false g); next = refl }
 called s e w (owns c n f) =
     record {
       made = λ g.
-          let x = f .called (ap₂ ownRefusal w g) in
+          let x = f .called (ap₂ (λ (t : Status) (b : Bool). ownRefusal t b (sound (view (meterOf s))) (fault c)) w g) in
           record { promised = x .promised; again = x .again };
       refused = λ g.
-          let x = refused-by-arguments (takenArguments c) (ownerOf c) s e n w g f in
+          let x = refused-by-arguments c s e n w g f in
           record { refusal = x .0; count = refl; kept = x .1 };
       next = refl;
     }
@@ -108,6 +138,11 @@ module _ (ch : Chosen) {s₁ s₂ e₁ e₂ : List ℕ} {c₁ c₂ : LentCall} {
     (a : Alike ch (view (meterOf s₁)) (view (meterOf s₂))) (c : hiddenLent ch c₁ ≡ hiddenLent ch c₂) (x : Called s₁ e₁ c₁ h₁) (y : Called s₂ e₂ c₂ h₂) where
   taken-same : taken c₁ ≡ taken c₂
   taken-same = taken-hidden ch c₁ ∙ ap taken c ∙ sym (taken-hidden ch c₂)
+
+  numbers-same : faultRefusal false (sound (view (meterOf s₁))) (number c₁) ≡ faultRefusal false (sound (view (meterOf s₂))) (number c₂)
+  numbers-same =
+      ap₂ (faultRefusal false) (sym (sound-hidden ch (view (meterOf s₁))) ∙ ap sound a ∙ sound-hidden ch (view (meterOf s₂)))
+      (number-hidden ch c₁ ∙ ap number c ∙ sym (number-hidden ch c₂))
 
   calls-same : hiddenCall ch (callOf c₁) ≡ hiddenCall ch (callOf c₂)
   calls-same = call-hidden ch c₁ ∙ ap (λ (d : LentCall). hiddenCall ch (callOf d)) c ∙ sym (call-hidden ch c₂)
@@ -130,7 +165,7 @@ module _ (ch : Chosen) {s₁ s₂ e₁ e₂ : List ℕ} {c₁ c₂ : LentCall} {
       let sent-same = none-sent h₁ (r₁ .count) ∙ sym (none-sent h₂ (r₂ .count)) in
       record {
         same = record {
-          refusal = r₁ .refusal ∙ sym (r₂ .refusal);
+          refusal = r₁ .refusal ∙ numbers-same ∙ sym (r₂ .refusal);
           size = ap length sent-same;
           sent = λ _. sent-same;
           next = subst (λ (m : Meter). Alike ch (view m) (view (h₂ .meter))) (sym (x .next ∙ ap meterOf (r₁ .kept)))

@@ -1,3 +1,4 @@
 pub mod Refusals
+pub mod Lending
 pub mod Promises
 pub mod Runs

@@ -4,14 +4,14 @@
 -- and after a frame call unless its refusal leaves the meter unchanged (`keeping`), every byte of the buffer is that of the one
 -- image of what the meter then holds (`imageFor`). Else the buffer is as it was.
 use mathlib.Core.Path.{_≡_}
-use mathlib.Core.Bool.{Bool, true, false}
+use mathlib.Core.Bool.{true, false}
 use mathlib.Core.List.{List, []}
 use Prim.Native.Nat.{ℕ}
 use lib.ListN.{length}
 use Rattle.model.specs.Periods.{listed}
 use Rattle.model.specs.State.{Model, newMeter}
 use Rattle.model.specs.Soundness.{sound}
-use Rattle.model.specs.Calls.{Lent, OwnerCall, Call, frame, owner, step}
+use Rattle.model.specs.Calls.{Lent, lentRefusal, OwnerCall, Call, frame, owner, step}
 use Rattle.model.specs.Demand3.{Handed, Promised}
 use Rattle.meter.specs.declared.Meter.{Meter}
 use Rattle.meter.specs.declared.Changed.{Changed}
@@ -22,7 +22,8 @@ use Rattle.protocol.specs.Outcomes.{keeping}
 use Rattle.p2.specs.declared.Received.{Received}
 use Rattle.image.specs.declared.Status.the-variants.{Whole}
 use Rattle.image.specs.Image.{imageSize, imageOf, meterOf, statusOf}
-use Rattle.capi.specs.Refusals.{ownRefusal, newRefusal, newSized}
+use Rattle.capi.specs.Refusals.{ownRefusal, frameRefusal, newRefusal, newSized}
+use Rattle.capi.specs.Lending.{LentOwner, takenArguments, fault, ownerOf}
 
 -- the one image of what a meter holds: zeros wherever it holds nothing
 abbrev pub imageFor : Model → List ℕ
@@ -64,10 +65,13 @@ pub record Owns (c : OwnerCall) (s e : List ℕ) (n : ℕ) : Type 0 where
   pub bytes : n ≡ 0 → e ≡ imageFor (after (owner c) s)
   pub again : statusOf e ≡ Whole
 
--- `good`: the arguments are taken
-pub record OwnerCalled (good : Bool) (c : OwnerCall) (s e : List ℕ) (n : ℕ) : Type 0 where
-  pub refused : (ownRefusal (statusOf s) good ≡ 0 → ⊥) → n ≡ ownRefusal (statusOf s) good
-  pub called : ownRefusal (statusOf s) good ≡ 0 → Owns c s e n
+-- the library's own refusal of a call as it is lent, or 0
+abbrev pub refusalFor : LentOwner → List ℕ → ℕ
+refusalFor c s = ownRefusal (statusOf s) (takenArguments c) (sound (view (meterOf s))) (fault c)
+
+pub record OwnerCalled (c : LentOwner) (s e : List ℕ) (n : ℕ) : Type 0 where
+  pub refused : (refusalFor c s ≡ 0 → ⊥) → n ≡ refusalFor c s
+  pub called : refusalFor c s ≡ 0 → Owns (ownerOf c) s e n
   pub kept : (n ≡ 0 → ⊥) → e ≡ s
 
 -- the end of an owner's call, in a buffer of the right length: the meter handed back is stored where the call is accepted
@@ -97,6 +101,6 @@ pub record Silent (s e l o : List ℕ) (k : ℕ) : Type 0 where
   pub room : o ≡ l
 
 pub record FrameCalled (a : Lent) (s e l o : List ℕ) (k n : ℕ) : Type 0 where
-  pub refused : (ownRefusal (statusOf s) true ≡ 0 → ⊥) → (n ≡ ownRefusal (statusOf s) true) × Silent s e l o k
-  pub called : ownRefusal (statusOf s) true ≡ 0 → Receives a s e l o k n
+  pub refused : (frameRefusal (statusOf s) (lentRefusal a) ≡ 0 → ⊥) → (n ≡ frameRefusal (statusOf s) (lentRefusal a)) × Silent s e l o k
+  pub called : frameRefusal (statusOf s) (lentRefusal a) ≡ 0 → Receives a s e l o k n
   pub kept : listed n keeping ≡ true → e ≡ s

@@ -2,61 +2,21 @@
 -- a state buffer that holds a whole image at first, in which each finds the buffer as the last one left it. A call stands in the list
 -- as it is lent, so that those which the library itself refuses for their arguments are among them, each with its number.
 use mathlib.Core.Path.{_≡_}
-use mathlib.Core.Bool.{Bool, true, false, cond}
+use mathlib.Core.Bool.{false, cond}
 use mathlib.Core.List.{List, [], _∷_, _++_, map}
 use Prim.Native.Nat.{ℕ, zero, suc, _/_}
-use lib.Dec.{eqb}
 use lib.ListN.{length, take, drop, replicate}
-use Rattle.model.specs.Calls.{Lent, OwnerCall, giveRegisters, setValue, setColumns, setPeriod, tick, setP5, powerUp, Call, frame, owner}
+use Rattle.model.specs.Calls.{Lent}
 use Rattle.model.specs.Demand3.{Chosen, hide, Alike, SameOutcomes, Handed, seen}
+use Rattle.model.specs.Soundness.{sound}
 use Rattle.meter.specs.declared.Meter.{Meter}
 use Rattle.meter.specs.View.{view}
 use Rattle.protocol.specs.Decide.{p2}
 use Rattle.image.specs.declared.Status.the-variants.{Whole}
-use Rattle.image.specs.Layout.{namePart, registerPart}
-use Rattle.image.specs.Lists.{wholeList, listIn}
 use Rattle.image.specs.Image.{meterOf, statusOf}
-use Rattle.capi.specs.Refusals.{wrongArgument, sized, isFlag}
+use Rattle.capi.specs.Refusals.{faultRefusal}
+use Rattle.capi.specs.Lending.{LentOwner, registers, value, columns, period, clock, p5, powered, LentCall, receive, own, takenArguments, fault, callOf}
 use Rattle.capi.specs.Promises.{handedBack, OwnerCalled, FrameCalled}
-
--- A call as it is lent: one constructor for each function of the library on a meter.
-
-pub data LentOwner : Type 0 where
-  registers : (records : List ℕ) → LentOwner
-  value : (name : List ℕ) → (value : ℕ) → LentOwner
-  columns : (names : List ℕ) → LentOwner
-  period : ℕ → LentOwner
-  clock : (bytes : List ℕ) → LentOwner
-  p5 : (held : ℕ) → LentOwner
-  powered : LentOwner
-
-pub data LentCall : Type 0 where
-  receive : Lent → LentCall
-  own : LentOwner → LentCall
-
--- the arguments are taken; else the library refuses the call
-abbrev pub takenArguments : LentOwner → Bool
-takenArguments (registers s) = wholeList registerPart s
-takenArguments (value n v) = sized 6 n
-takenArguments (columns s) = wholeList namePart s
-takenArguments (period d) = true
-takenArguments (clock t) = sized 12 t
-takenArguments (p5 h) = isFlag h
-takenArguments powered = true
-
--- the call on a meter that is then made
-abbrev pub ownerOf : LentOwner → OwnerCall
-ownerOf (registers s) = giveRegisters (listIn registerPart s)
-ownerOf (value n v) = setValue (record { bytes = n }) v
-ownerOf (columns s) = setColumns (listIn namePart s)
-ownerOf (period d) = setPeriod d
-ownerOf (clock t) = tick (record { bytes = t })
-ownerOf (p5 h) = setP5 (eqb h 1)
-ownerOf powered = powerUp
-
-abbrev pub callOf : LentCall → Call
-callOf (receive a) = frame a
-callOf (own c) = owner (ownerOf c)
 
 -- Alike.
 
@@ -92,7 +52,7 @@ AlikeLent ch cs₁ cs₂ = map (hiddenLent ch) cs₁ ≡ map (hiddenLent ch) cs�
 -- a call of the library, from what the buffer held to what it holds
 pub data Library (s e : List ℕ) : LentCall → Handed Meter view → Type 0 where
   receives : (a : Lent) (l o : List ℕ) (k n : ℕ) → FrameCalled a s e l o k n → Library s e (receive a) (handedBack n k e l o)
-  owns : (c : LentOwner) (n : ℕ) → OwnerCalled (takenArguments c) (ownerOf c) s e n → Library s e (own c) (handedBack n 0 e [] [])
+  owns : (c : LentOwner) (n : ℕ) → OwnerCalled c s e n → Library s e (own c) (handedBack n 0 e [] [])
 
 -- a list of calls is made
 pub data LibraryRuns : (state : List ℕ) → List LentCall → List (Handed Meter view) → Type 0 where
@@ -103,14 +63,15 @@ pub data LibraryRuns : (state : List ℕ) → List LentCall → List (Handed Met
       → LibraryRuns e cs hs
       → LibraryRuns s (c ∷ cs) (h ∷ hs)
 
--- on a whole image the library refuses for the arguments alone
+-- on a whole image the library refuses for the arguments alone, and only where the meter is sound: "owner's calls 3, then their own
+-- refusal"
 abbrev pub RefusedByArguments : Type 0
 RefusedByArguments =
-    (good : Bool) (c : OwnerCall) (s e : List ℕ) (n : ℕ)
+    (c : LentOwner) (s e : List ℕ) (n : ℕ)
     → statusOf s ≡ Whole
-    → good ≡ false
-    → OwnerCalled good c s e n
-    → (n ≡ wrongArgument) × (e ≡ s)
+    → takenArguments c ≡ false
+    → OwnerCalled c s e n
+    → (n ≡ faultRefusal false (sound (view (meterOf s))) (fault c)) × (e ≡ s)
 
 -- two buffers with whole images of meters that are alike but for the chosen registers, the same list of calls, whatever the two
 -- runs hand back: for each call, refused or not, the same number and length, and the same bytes but for granted reads

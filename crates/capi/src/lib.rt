@@ -1,5 +1,6 @@
 // Birlimock for firmware in C and Rust: every call works on a state buffer that holds the image of a meter, and answers a
-// number. The library's own refusals come first: of the state buffer, then of an argument. Then the call of that name is made
+// number. The library's own refusals come first: of the state buffer, then of an argument, by document 01's numbers and in its
+// order where 01 knows the fault. Then the call of that name is made
 // on the meter in the buffer, and the meter that comes back is written there, with zeros wherever it holds nothing: by an owner's
 // call where it is accepted, by a frame call unless its refusal leaves the meter unchanged. Else nothing is written.
 // include/birlimock.h has the calls as C sees them.
@@ -12,20 +13,17 @@ use image::REGISTER;
 use image::SIZE;
 use meter::Changed;
 use meter::Meter;
+use own::WRONG_ARGUMENT;
 use own::WRONG_STATE_SIZE;
 use own::argument_refusal;
+use own::frame_refusal;
 use own::refusal_of;
 use p2::Received;
 ghost use mathlib.Core.Path.{_≡_};
-ghost use mathlib.Core.Bool.{true};
-ghost use lib.Dec.{eqb};
 ghost use lib.ListN.{length};
-ghost use Rattle.model.specs.Calls.{OwnerCall};
-ghost use Rattle.image.specs.Layout.{namePart, registerPart};
-ghost use Rattle.image.specs.Lists.{listIn, wholeList};
 ghost use Rattle.image.specs.Image.{imageSize};
 ghost use Rattle.p2.specs.Promise.{lent};
-ghost use Rattle.capi.specs.Refusals.{isFlag, sized};
+ghost use Rattle.capi.specs.Lending.{LentOwner};
 ghost use Rattle.capi.specs.Promises.{Ends, FrameCalled, FrameEnds, NewCalled, OwnerCalled};
 
 // How many bytes a state buffer has.
@@ -64,12 +62,12 @@ pub extern "C" fn birlimock_new(
     0
 }
 
-// Registers are given anew. Refusals 101 to 104, 3 and 16.
+// Registers are given anew. Refusals 101, 102, 3 and 16.
 #[no_mangle]
 pub extern "C" fn birlimock_give_registers(state: &mut [u8], registers: &[u8]) -> u8
-    ensures { λ r. ⌜ OwnerCalled (wholeList registerPart (now (registers .entry))) (OwnerCall.giveRegisters (listIn registerPart (now (registers .entry)))) (now (state .entry)) (now (state .exit)) r ⌝ }
+    ensures { λ r. ⌜ OwnerCalled (LentOwner.registers (now (registers .entry))) (now (state .entry)) (now (state .exit)) r ⌝ }
 {
-    let n = refusal_of(state, image::are_registers(registers));
+    let n = refusal_of(state, image::are_registers(registers), 16);
     if n != 0 {
         return n;
     }
@@ -80,12 +78,12 @@ pub extern "C" fn birlimock_give_registers(state: &mut [u8], registers: &[u8]) -
     end(changed, state)
 }
 
-// The value of a register is set. Refusals 101 to 104, 3 and 17.
+// The value of a register is set. Refusals 101, 102, 3 and 17.
 #[no_mangle]
 pub extern "C" fn birlimock_set_value(state: &mut [u8], name: &[u8], value: u32) -> u8
-    ensures { λ r. ⌜ OwnerCalled (sized 6 (now (name .entry))) (OwnerCall.setValue (record { bytes = now (name .entry) }) value) (now (state .entry)) (now (state .exit)) r ⌝ }
+    ensures { λ r. ⌜ OwnerCalled (LentOwner.value (now (name .entry)) value) (now (state .entry)) (now (state .exit)) r ⌝ }
 {
-    let n = refusal_of(state, name.len() == NAME);
+    let n = refusal_of(state, name.len() == NAME, 17);
     if n != 0 {
         return n;
     }
@@ -94,12 +92,12 @@ pub extern "C" fn birlimock_set_value(state: &mut [u8], name: &[u8], value: u32)
     end(changed, state)
 }
 
-// Columns are set. Refusals 101 to 104, 3 and 18.
+// Columns are set. Refusals 101, 102, 3 and 18.
 #[no_mangle]
 pub extern "C" fn birlimock_set_columns(state: &mut [u8], names: &[u8]) -> u8
-    ensures { λ r. ⌜ OwnerCalled (wholeList namePart (now (names .entry))) (OwnerCall.setColumns (listIn namePart (now (names .entry)))) (now (state .entry)) (now (state .exit)) r ⌝ }
+    ensures { λ r. ⌜ OwnerCalled (LentOwner.columns (now (names .entry))) (now (state .entry)) (now (state .exit)) r ⌝ }
 {
-    let n = refusal_of(state, image::are_names(names));
+    let n = refusal_of(state, image::are_names(names), 18);
     if n != 0 {
         return n;
     }
@@ -110,12 +108,12 @@ pub extern "C" fn birlimock_set_columns(state: &mut [u8], names: &[u8]) -> u8
     end(changed, state)
 }
 
-// The capture period is set. Refusals 101 to 103, 3 and 15.
+// The capture period is set. Refusals 101, 102, 3 and 15.
 #[no_mangle]
 pub extern "C" fn birlimock_set_period(state: &mut [u8], period: u32) -> u8
-    ensures { λ r. ⌜ OwnerCalled true (OwnerCall.setPeriod period) (now (state .entry)) (now (state .exit)) r ⌝ }
+    ensures { λ r. ⌜ OwnerCalled (LentOwner.period period) (now (state .entry)) (now (state .exit)) r ⌝ }
 {
-    let n = refusal_of(state, true);
+    let n = refusal_of(state, true, 15);
     if n != 0 {
         return n;
     }
@@ -124,12 +122,12 @@ pub extern "C" fn birlimock_set_period(state: &mut [u8], period: u32) -> u8
     end(changed, state)
 }
 
-// The clock moves on. Refusals 101 to 104, 3 and 14.
+// The clock moves on. Refusals 101, 102, 3 and 14.
 #[no_mangle]
 pub extern "C" fn birlimock_tick(state: &mut [u8], clock: &[u8]) -> u8
-    ensures { λ r. ⌜ OwnerCalled (sized 12 (now (clock .entry))) (OwnerCall.tick (record { bytes = now (clock .entry) })) (now (state .entry)) (now (state .exit)) r ⌝ }
+    ensures { λ r. ⌜ OwnerCalled (LentOwner.clock (now (clock .entry))) (now (state .entry)) (now (state .exit)) r ⌝ }
 {
-    let n = refusal_of(state, clock.len() == CLOCK);
+    let n = refusal_of(state, clock.len() == CLOCK, 14);
     if n != 0 {
         return n;
     }
@@ -138,12 +136,12 @@ pub extern "C" fn birlimock_tick(state: &mut [u8], clock: &[u8]) -> u8
     end(changed, state)
 }
 
-// The P5 flag is set by 1 and cleared by 0. Refusals 101 to 104 and 3.
+// The P5 flag is set by 1 and cleared by 0. Refusals 101, 102, 3 and 104.
 #[no_mangle]
 pub extern "C" fn birlimock_set_p5(state: &mut [u8], held: u32) -> u8
-    ensures { λ r. ⌜ OwnerCalled (isFlag held) (OwnerCall.setP5 (eqb held 1)) (now (state .entry)) (now (state .exit)) r ⌝ }
+    ensures { λ r. ⌜ OwnerCalled (LentOwner.p5 held) (now (state .entry)) (now (state .exit)) r ⌝ }
 {
-    let n = refusal_of(state, held < 2);
+    let n = refusal_of(state, held < 2, WRONG_ARGUMENT);
     if n != 0 {
         return n;
     }
@@ -152,12 +150,12 @@ pub extern "C" fn birlimock_set_p5(state: &mut [u8], held: u32) -> u8
     end(changed, state)
 }
 
-// Power-up. Refusals 101 to 103 and 3.
+// Power-up. Refusals 101, 102 and 3.
 #[no_mangle]
 pub extern "C" fn birlimock_power_up(state: &mut [u8]) -> u8
-    ensures { λ r. ⌜ OwnerCalled true OwnerCall.powerUp (now (state .entry)) (now (state .exit)) r ⌝ }
+    ensures { λ r. ⌜ OwnerCalled LentOwner.powered (now (state .entry)) (now (state .exit)) r ⌝ }
 {
-    let n = refusal_of(state, true);
+    let n = refusal_of(state, true, WRONG_ARGUMENT);
     if n != 0 {
         return n;
     }
@@ -166,7 +164,7 @@ pub extern "C" fn birlimock_power_up(state: &mut [u8]) -> u8
     end(changed, state)
 }
 
-// A frame is received; `sent` is how many bytes of the reply room go out. Refusals 101 to 103, then 1 to 13.
+// A frame is received; `sent` is how many bytes of the reply room go out. Refusals 101 and 102, then 1 to 13.
 #[no_mangle]
 pub extern "C" fn birlimock_receive(
     state: &mut [u8],
@@ -180,7 +178,7 @@ pub extern "C" fn birlimock_receive(
     ensures { λ r. ⌜ FrameCalled (lent (length (now (reply .entry))) (now (guk .entry)) (now (ak .entry)) (now (challenge .entry)) (now (frame .entry))) (now (state .entry)) (now (state .exit)) (now (reply .entry)) (now (reply .exit)) (now (sent .exit)) r ⌝ }
 {
     *sent = 0;
-    let n = refusal_of(state, true);
+    let n = frame_refusal(state, reply.len(), guk, ak, challenge);
     if n != 0 {
         return n;
     }

@@ -21,7 +21,7 @@ const WRONG_LENGTH: u8 = 101;
 
 const WRONG_VERSION: u8 = 102;
 
-const NO_IMAGE: u8 = 103;
+const NO_IMAGE: u8 = 3;
 
 // What a line comes to: the meter; the column of the first character that cannot be read, or 0; the number of the refusal,
 // or 0; and how many bytes of the reply buffer are the reply.

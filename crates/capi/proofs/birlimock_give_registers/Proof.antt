@@ -9,7 +9,7 @@ returns : tie.Need-returns
 returns c =
     let at-refusal-of = c .before in
     let at-are-registers = at-refusal-of .before in
-    owner-refused (at-are-registers .are-registers .ensures) (at-refusal-of .refusal-of .ensures) (c .if1 .taken)
+    owner-refused _ (at-are-registers .are-registers .ensures) (at-refusal-of .refusal-of .ensures) (c .if1 .taken)
 
 returns-2 : tie.Need-returns-2
 returns-2 c =
@@ -20,7 +20,7 @@ returns-2 c =
     let at-if1 = at-registers-in .before in
     let at-refusal-of = at-if1 .before in
     let at-are-registers = at-refusal-of .before in
-    owner-called (at-are-registers .are-registers .ensures) (at-refusal-of .refusal-of .ensures) (at-if1 .if1 .left) (at-meter-in .meter-in .ensures)
+    owner-called _ (at-are-registers .are-registers .ensures) (at-refusal-of .refusal-of .ensures) (at-if1 .if1 .left) (at-meter-in .meter-in .ensures)
     (λ _. registers-given (at-registers-in .registers-in .ensures) (at-give-registers .give-registers .ensures))
     (at-end .end .ensures)
 

@@ -2,15 +2,13 @@
 use borrow.Author.Needs.{needs}
 use mathlib.Core.Path.{refl}
 use Rattle.capi.proofs.CallLaws.{owner-refused, owner-called}
-use mathlib.Core.Path.{refl}
-use Rattle.capi.proofs.CallLaws.{owner-refused, owner-called}
 use Rattle.capi.proofs.birlimock_power_up.Statement.{statement}
 use Rattle.capi.proofs.birlimock_power_up.Tie as tie
 
 returns : tie.Need-returns
 returns c =
     let at-refusal-of = c .before in
-    owner-refused refl (at-refusal-of .refusal-of .ensures) (c .if1 .taken)
+    owner-refused _ refl (at-refusal-of .refusal-of .ensures) (c .if1 .taken)
 
 returns-2 : tie.Need-returns-2
 returns-2 c =
@@ -19,7 +17,7 @@ returns-2 c =
     let at-meter-in = at-power-up .before in
     let at-if1 = at-meter-in .before .before in
     let at-refusal-of = at-if1 .before in
-    owner-called refl (at-refusal-of .refusal-of .ensures) (at-if1 .if1 .left) (at-meter-in .meter-in .ensures)
+    owner-called _ refl (at-refusal-of .refusal-of .ensures) (at-if1 .if1 .left) (at-meter-in .meter-in .ensures)
     (λ _. at-power-up .power-up .ensures .owned)
     (at-end .end .ensures)
 

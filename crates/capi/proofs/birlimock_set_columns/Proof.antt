@@ -9,7 +9,7 @@ returns : tie.Need-returns
 returns c =
     let at-refusal-of = c .before in
     let at-are-names = at-refusal-of .before in
-    owner-refused (at-are-names .are-names .ensures) (at-refusal-of .refusal-of .ensures) (c .if1 .taken)
+    owner-refused _ (at-are-names .are-names .ensures) (at-refusal-of .refusal-of .ensures) (c .if1 .taken)
 
 returns-2 : tie.Need-returns-2
 returns-2 c =
@@ -20,7 +20,7 @@ returns-2 c =
     let at-if1 = at-names-in .before in
     let at-refusal-of = at-if1 .before in
     let at-are-names = at-refusal-of .before in
-    owner-called (at-are-names .are-names .ensures) (at-refusal-of .refusal-of .ensures) (at-if1 .if1 .left) (at-meter-in .meter-in .ensures)
+    owner-called _ (at-are-names .are-names .ensures) (at-refusal-of .refusal-of .ensures) (at-if1 .if1 .left) (at-meter-in .meter-in .ensures)
     (λ _. columns-given (at-names-in .names-in .ensures) (at-set-columns .set-columns .ensures))
     (at-end .end .ensures)
 
