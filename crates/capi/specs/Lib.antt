@@ -2,3 +2,4 @@ pub mod Refusals
 pub mod Lending
 pub mod Promises
 pub mod Runs
+pub mod Numbers

@@ -1,0 +1,101 @@
+-- Each call of the static library has the numbers that specs/Numbers lists for it.
+use mathlib.Core.Path.{_≡_, refl, _∙_, ap}
+use mathlib.Core.Bool.{Bool, true, false, cond, not, _||_, false≢true, true≢false}
+use mathlib.Core.List.{List, [], _∷_, _++_}
+use Prim.Native.Nat.{ℕ}
+use lib.Dec.{eqb, ltb}
+use lib.ListN.{length}
+use borrow.Author.Tests.{eqb-true, eqb-false}
+use Rattle.model.specs.Limits.{longestSent, replyRoom}
+use Rattle.model.specs.Periods.{listed}
+use Rattle.model.specs.State.{Model}
+use Rattle.model.specs.Soundness.{sound}
+use Rattle.model.specs.Calls.{Lent, lentRefusal, frame, step}
+use Rattle.model.specs.Archive.{numbers}
+use Rattle.meter.specs.View.{view}
+use Rattle.protocol.specs.Decide.{p2}
+use Rattle.protocol.proofs.Claim.{p2-numbers-allowed}
+use Rattle.image.specs.declared.Status.{Status}
+use Rattle.image.specs.declared.Status.the-variants.{Whole, WrongLength, WrongVersion, NoImage}
+use Rattle.image.specs.Image.{meterOf, statusOf}
+use Rattle.capi.specs.Refusals.{notSound, ownRefusal, frameRefusal}
+use Rattle.capi.specs.Lending.{LentOwner, registers, value, columns, period, clock, p5, powered, LentCall, receive, own, takenArguments, fault, callOf}
+use Rattle.capi.specs.Promises.{refusalFor}
+use Rattle.capi.specs.Runs.{Library, receives, owns}
+use Rattle.capi.specs.Numbers.{unknownNumbers, libraryNumbers, LibraryNumbers}
+
+-- a number of the first of two lists
+before : (n : ℕ) (xs ys : List ℕ) → listed n xs ≡ true → listed n (xs ++ ys) ≡ true
+before n [] ys e = absurd (false≢true e)
+before n (x ∷ xs) ys e = go (eqb x n) e (λ f. before n xs ys f)
+  where
+    go : (b : Bool) → b || listed n xs ≡ true → (listed n xs ≡ true → listed n (xs ++ ys) ≡ true) → b || listed n (xs ++ ys) ≡ true
+    go true e f = refl
+    go false e f = f e
+
+known : (c : LentCall) (n : ℕ) → listed n (numbers (callOf c)) ≡ true → listed n (libraryNumbers c) ≡ true
+known c n e = go (eqb 101 n) (eqb 102 n)
+  where
+    go : (a b : Bool) → a || (b || listed n (numbers (callOf c) ++ unknownNumbers c)) ≡ true
+    go true b = refl
+    go false true = refl
+    go false false = before n (numbers (callOf c)) (unknownNumbers c) e
+
+-- a call that was made
+made-number : (c : LentCall) (m : Model) (n : ℕ) → n ≡ step p2 (callOf c) m .refusal → listed n (libraryNumbers c) ≡ true
+made-number c m n e = known c n (ap (λ (k : ℕ). listed k (numbers (callOf c))) e ∙ p2-numbers-allowed (callOf c) m)
+
+-- Owner's calls that the library refuses.
+
+fault-number : (c : LentOwner) → takenArguments c ≡ false → listed (fault c) (libraryNumbers (own c)) ≡ true
+fault-number (registers s) g = refl
+fault-number (value n v) g = refl
+fault-number (columns s) g = refl
+fault-number (period d) g = refl
+fault-number (clock t) g = refl
+fault-number (p5 h) g = refl
+fault-number powered g = absurd (true≢false g)
+
+own-number : (t : Status) (good y : Bool) (c : LentOwner) → takenArguments c ≡ good → listed (ownRefusal t good y (fault c)) (libraryNumbers (own c)) ≡ true
+own-number Whole true y c g = refl
+own-number Whole false true c g = fault-number c g
+own-number Whole false false c g = refl
+own-number WrongLength good y c g = refl
+own-number WrongVersion good y c g = refl
+own-number NoImage good y c g = refl
+
+-- Frame calls that the library refuses.
+
+lent-number : (a : Lent) → listed (lentRefusal a) (numbers (frame a)) ≡ true
+unfolding lentRefusal
+lent-number a =
+    go (ltb (a .room) (replyRoom longestSent)) (not (eqb (length (a .guk)) 16)) (not (eqb (length (a .ak)) 16)) (not (eqb (length (a .challenge)) 8))
+  where
+    go : (w x y z : Bool) → listed (cond w 1 (cond x 2 (cond y 2 (cond z 2 0)))) (numbers (frame a)) ≡ true
+    go true x y z = refl
+    go false true y z = refl
+    go false false true z = refl
+    go false false false true = refl
+    go false false false false = refl
+
+frame-number : (a : Lent) (t : Status) (k : ℕ) → listed k (numbers (frame a)) ≡ true → listed (frameRefusal t k) (libraryNumbers (receive a)) ≡ true
+frame-number a Whole k e = refl
+frame-number a WrongLength k e = refl
+frame-number a WrongVersion k e = refl
+frame-number a NoImage k e = go (eqb k 0)
+  where
+    go : (b : Bool) → listed (cond b notSound k) (libraryNumbers (receive a)) ≡ true
+    go true = refl
+    go false = known (receive a) k e
+
+pub library-numbers : LibraryNumbers
+library-numbers s e c h (receives a l o k n f) = go (eqb (frameRefusal (statusOf s) (lentRefusal a)) 0) refl
+  where
+    go : (b : Bool) → eqb (frameRefusal (statusOf s) (lentRefusal a)) 0 ≡ b → listed n (libraryNumbers (receive a)) ≡ true
+    go true p = made-number (receive a) (view (meterOf s)) n (f .called (eqb-true _ _ p) .promised .refusal)
+    go false p = ap (λ (k : ℕ). listed k (libraryNumbers (receive a))) (f .refused (eqb-false _ _ p) .0) ∙ frame-number a (statusOf s) (lentRefusal a) (lent-number a)
+library-numbers s e c h (owns d n f) = go (eqb (refusalFor d s) 0) refl
+  where
+    go : (b : Bool) → eqb (refusalFor d s) 0 ≡ b → listed n (libraryNumbers (own d)) ≡ true
+    go true p = made-number (own d) (view (meterOf s)) n (f .called (eqb-true _ _ p) .promised .refusal)
+    go false p = ap (λ (k : ℕ). listed k (libraryNumbers (own d))) (f .refused (eqb-false _ _ p)) ∙ own-number (statusOf s) (takenArguments d) (sound (view (meterOf s))) d refl
