@@ -7,9 +7,10 @@ use Prim.Native.Nat.{ℕ}
 use native.Mathlib.Omega.{arith}
 use lib.ListN.{length, take}
 use Rattle.model.specs.Calls.{lentRefusal, Call, giveRegisters, setValue, owner}
-use Rattle.model.specs.Demand3.{Chosen, hide, hiddenOwner, hiddenCall, Alike, SameOutcome, SameOutcomes, Handed, seen, Promised}
+use Rattle.model.specs.Demand3.{Chosen, hide, hiddenOwner, hiddenCall, Alike, SameOutcome, SameOutcomes, noneSame, moreSame, Handed, seen, Promised, noneRun, moreRun}
 use Rattle.model.specs.Soundness.{sound}
 use Rattle.model.proofs.HidingLaws.{sound-hidden}
+use Rattle.model.proofs.Noninterference.{first-same}
 use Rattle.meter.specs.declared.Meter.{Meter}
 use Rattle.meter.specs.View.{view}
 use Rattle.protocol.specs.Decide.{p2}
@@ -152,7 +153,7 @@ module _ (ch : Chosen) {s₁ s₂ e₁ e₂ : List ℕ} {c₁ c₂ : LentCall} {
       let m₁ = x .made g in
       let m₂ = y .made (sym taken-same ∙ g) in
       record {
-        same = p2-demand3 ch (meterOf s₁) (meterOf s₂) (callOf c₁ ∷ []) (callOf c₂ ∷ []) (h₁ ∷ []) (h₂ ∷ []) a (ap (λ (d : Call). d ∷ []) calls-same) (m₁ .promised, tt) (m₂ .promised, tt) .0;
+        same = first-same (p2-demand3 ch (meterOf s₁) (meterOf s₂) (callOf c₁ ∷ []) (callOf c₂ ∷ []) (h₁ ∷ []) (h₂ ∷ []) a (ap (λ (d : Call). d ∷ []) calls-same) (moreRun (m₁ .promised) noneRun) (moreRun (m₂ .promised) noneRun));
         first = m₁ .again;
         second = m₂ .again;
       }
@@ -185,15 +186,14 @@ module _ (ch : Chosen) {s₁ s₂ e₁ e₂ : List ℕ} {c₁ c₂ : LentCall} {
 -- Lists of calls.
 
 pub library-demand3 : LibraryDemand3
-library-demand3 ch s₁ s₂ [] [] [] [] w₁ w₂ a c none none = tt
+library-demand3 ch s₁ s₂ [] [] [] [] w₁ w₂ a c none none = noneSame
 library-demand3 ch s₁ s₂ [] (c₂ ∷ cs₂) hs₁ hs₂ w₁ w₂ a c r₁ r₂ = absurd (nil≢cons c)
 library-demand3 ch s₁ s₂ (c₁ ∷ cs₁) [] hs₁ hs₂ w₁ w₂ a c r₁ r₂ = absurd (cons≢nil c)
 library-demand3 ch s₁ s₂ (c₁ ∷ cs₁) (c₂ ∷ cs₂) (h₁ ∷ hs₁) (h₂ ∷ hs₂) w₁ w₂ a c (more e₁ l₁ r₁) (more e₂ l₂ r₂) =
     let x = called s₁ e₁ w₁ l₁ in
     let y = called s₂ e₂ w₂ l₂ in
     let b = both ch w₁ w₂ a (head-eq-of-cons-eq c) x y in
-    let like = subst (λ (m : Meter). Alike ch (view (meterOf e₁)) (view m)) (y .next) (subst (λ (m : Meter). Alike ch (view m) (view (h₂ .meter))) (x .next) (b .same .next)) in (
-      b .same,
-      subst (λ (m : Meter). SameOutcomes p2 ch (map callOf cs₁) (view m) (map (seen Meter view) hs₁) (map (seen Meter view) hs₂)) (sym (x .next))
-          (library-demand3 ch e₁ e₂ cs₁ cs₂ hs₁ hs₂ (b .first) (b .second) like (tail-eq-of-cons-eq c) r₁ r₂),
-    )
+    let like = subst (λ (m : Meter). Alike ch (view (meterOf e₁)) (view m)) (y .next) (subst (λ (m : Meter). Alike ch (view m) (view (h₂ .meter))) (x .next) (b .same .next)) in
+    moreSame (b .same)
+    (subst (λ (m : Meter). SameOutcomes p2 ch (map callOf cs₁) (view m) (map (seen Meter view) hs₁) (map (seen Meter view) hs₂)) (sym (x .next))
+    (library-demand3 ch e₁ e₂ cs₁ cs₂ hs₁ hs₂ (b .first) (b .second) like (tail-eq-of-cons-eq c) r₁ r₂))

@@ -19,7 +19,7 @@ use Rattle.model.specs.Periods.{permittedPeriod, captureDue}
 use Rattle.model.specs.Soundness.{acceptedRegisters, acceptedColumns, sound}
 use Rattle.model.specs.Objects.{rows, Service, get, action}
 use Rattle.model.specs.Calls.{Call, frame, owner, OwnerCall, ownRefusal, obeyed, giveRegisters, setValue, setColumns, setPeriod, tick, setP5, powerUp, Outcome, done, refused, Decision, answer, serve, Protocol, KeepsLengths, decided, captured, ticked, rowNow, nextNumber, withGiven, withAssigned, withColumns, poweredLine, act, early, step, trace}
-use Rattle.model.specs.Demand3.{Chosen, hide, hideRegister, hideBody, hidden, hiddenOwner, hiddenCall, Alike, AlikeCalls, asksChosen, decidesRead, reads, SameOutcome, SameOutcomes, TraceDemand3, Handed, Gave, seen, Run, Demand3}
+use Rattle.model.specs.Demand3.{Chosen, hide, hideRegister, hideBody, hidden, hiddenOwner, hiddenCall, Alike, AlikeCalls, asksChosen, decidesRead, reads, SameOutcome, SameOutcomes, noneSame, moreSame, TraceDemand3, Handed, Gave, seen, Run, noneRun, moreRun, Demand3}
 use Rattle.model.proofs.ListLaws.{passed}
 use Rattle.model.proofs.HidingLaws.{registers-twice, sound-hidden, given-hidden, assigned-hidden, accepted-hidden, columns-hidden, row-hidden, rows-pushed, rows-twice}
 use Rattle.model.proofs.AnswerLaws.{turned-close, body-twice, emptied-twice}
@@ -165,12 +165,17 @@ module _ (p : Protocol) (keeps : KeepsLengths p) (ch : Chosen) where
 
   same-trace : (m₁ m₂ : Model) (cs₁ cs₂ : List Call) → Alike ch m₁ m₂ → AlikeCalls ch cs₁ cs₂ → SameOutcomes p ch cs₁ m₁ (trace p cs₁ m₁) (trace p cs₂ m₂)
   unfolding trace
-  same-trace m₁ m₂ [] [] l e = tt
+  same-trace m₁ m₂ [] [] l e = noneSame
   same-trace m₁ m₂ [] (c₂ ∷ cs₂) l e = absurd (nil≢cons e)
   same-trace m₁ m₂ (c₁ ∷ cs₁) [] l e = absurd (cons≢nil e)
   same-trace m₁ m₂ (c₁ ∷ cs₁) (c₂ ∷ cs₂) l e =
       let h = same-call c₁ c₂ m₁ m₂ (head-eq-of-cons-eq e) l in
-      (h, same-trace (step p c₁ m₁ .next) (step p c₂ m₂ .next) cs₁ cs₂ (h .next) (tail-eq-of-cons-eq e))
+      moreSame h (same-trace (step p c₁ m₁ .next) (step p c₂ m₂ .next) cs₁ cs₂ (h .next) (tail-eq-of-cons-eq e))
+
+-- the first call of two lists of outcomes that are the same
+pub first-same : {p : Protocol} {ch : Chosen} {c : Call} {cs : List Call} {m : Model} {o₁ o₂ : Outcome} {os₁ os₂ : List Outcome}
+    → SameOutcomes p ch (c ∷ cs) m (o₁ ∷ os₁) (o₂ ∷ os₂) → SameOutcome p ch c m o₁ o₂
+first-same (moreSame x xs) = x
 
 -- Demand 3, for every list of calls as the model runs it.
 pub trace-demand3 : (p : Protocol) → KeepsLengths p → TraceDemand3 p
@@ -191,11 +196,9 @@ module _ (Meter : Type 0) (view : Meter → Model) where
   -- every run has the numbers, the bytes and the meters of the trace
   pub run-trace : (p : Protocol) (m : Meter) (cs : List Call) (hs : List (Handed Meter view)) → Run Meter view p m cs hs → map (seen Meter view) hs ≡ trace p cs (view m)
   unfolding trace
-  run-trace p m [] [] x = refl
-  run-trace p m [] (h ∷ hs) x = absurd x
-  run-trace p m (c ∷ cs) [] x = absurd x
-  run-trace p m (c ∷ cs) (h ∷ hs) x =
-      ap₂ _∷_ (seen-is (step p c (view m)) h (x .0)) (run-trace p (h .meter) cs hs (x .1) ∙ ap (trace p cs) (x .0 .meter))
+  run-trace p m [] [] noneRun = refl
+  run-trace p m (c ∷ cs) (h ∷ hs) (moreRun g x) =
+      ap₂ _∷_ (seen-is (step p c (view m)) h g) (run-trace p (h .meter) cs hs x ∙ ap (trace p cs) (g .meter))
 
   -- Demand 3, of functions that keep their promises.
   pub demand3 : (p : Protocol) → KeepsLengths p → Demand3 Meter view p

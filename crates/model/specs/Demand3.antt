@@ -1,6 +1,6 @@
 -- Demand 3: whoever is not granted a read of a register learns nothing of its value, over any list of calls. First what
 -- its words mean, and the claim for every list of calls as the model runs it (`TraceDemand3`); last the claim itself
--- (`Demand3`), for any two runs of functions that keep their promises. In both, `X → ⊥` reads "not X".
+-- (`Demand3`), for any two runs of functions that keep their promises. `X → ⊥` reads "not X".
 use mathlib.Core.Path.{_≡_}
 use mathlib.Core.Bool.{Bool, true, false, cond, _&&_, _||_}
 use mathlib.Core.List.{List, [], _∷_, _++_, map}
@@ -105,30 +105,41 @@ GrantedRead p ch c m o = (reads p ch c m ≡ true) × (o .refusal ≡ 0)
 
 -- The claim.
 
--- One call in each of two runs: the same number; what goes out equal in length and, but for a granted read, equal; the
--- meters alike again.
+-- One call in each of two runs.
 pub record SameOutcome (p : Protocol) (ch : Chosen) (c : Call) (m : Model) (o₁ o₂ : Outcome) : Type 0 where
+  -- "the same refusal number in both runs, or none in both"
   pub refusal : o₁ .refusal ≡ o₂ .refusal
+  -- "equal in length all the same"
   pub size : length (o₁ .sent) ≡ length (o₂ .sent)
+  -- "the same frame goes out, or none"; "only the answer to a granted read of such a value, or of a profile with such a
+  -- column, may differ"
   pub sent : (GrantedRead p ch c m o₁ → ⊥) → o₁ .sent ≡ o₂ .sent
+  -- "after each call the two meters are again alike but for those values and cells"
   pub next : Alike ch (o₁ .next) (o₂ .next)
 
--- call by call; the meter of a call is the one that the call before it handed back
-abbrev pub SameOutcomes : Protocol → Chosen → List Call → Model → List Outcome → List Outcome → Type 0
-SameOutcomes p ch [] m [] [] = Unit {0}
-SameOutcomes p ch [] m [] (o₂ ∷ os₂) = ⊥
-SameOutcomes p ch [] m (o₁ ∷ os₁) os₂ = ⊥
-SameOutcomes p ch (c ∷ cs) m [] os₂ = ⊥
-SameOutcomes p ch (c ∷ cs) m (o₁ ∷ os₁) [] = ⊥
-SameOutcomes p ch (c ∷ cs) m (o₁ ∷ os₁) (o₂ ∷ os₂) = SameOutcome p ch c m o₁ o₂ × SameOutcomes p ch cs (o₁ .next) os₁ os₂
+-- Call by call, over all of the list and of both runs; the meter of a call is the one that the call before it handed back.
+pub data SameOutcomes (p : Protocol) (ch : Chosen) : List Call → Model → List Outcome → List Outcome → Type 0 where
+  noneSame : {m : Model} → SameOutcomes p ch [] m [] []
+  moreSame :
+      {c : Call} {cs : List Call} {m : Model} {o₁ o₂ : Outcome} {os₁ os₂ : List Outcome}
+      → SameOutcome p ch c m o₁ o₂
+      → SameOutcomes p ch cs (o₁ .next) os₁ os₂
+      → SameOutcomes p ch (c ∷ cs) m (o₁ ∷ os₁) (o₂ ∷ os₂)
 
--- Any set of registers is chosen, any two meters are taken, sound or not, that are alike but for these, and both are given
--- the same list of calls, as long as one likes.
+-- demand 3 of the model itself, in the customer's words
 abbrev pub TraceDemand3 : Protocol → Type 0
 TraceDemand3 p =
-    (ch : Chosen) (m₁ m₂ : Model) (cs₁ cs₂ : List Call)
+    -- "choose any set of registers"
+    (ch : Chosen)
+    -- "any two meters, sound or not"
+    → (m₁ m₂ : Model)
+    -- "frame calls and owner's calls, refused ones included, as long as you like and in any order"
+    → (cs₁ cs₂ : List Call)
+    -- "alike but for the values of these registers and the cells recorded from them"
     → Alike ch m₁ m₂
+    -- "give both the same list"; "only values written to those registers may differ"
     → AlikeCalls ch cs₁ cs₂
+    -- "for every such list, each call then has .."
     → SameOutcomes p ch cs₁ m₁ (trace p cs₁ m₁) (trace p cs₂ m₂)
 
 -- The same of functions, over the type of meters that they work on. `view` says what such a meter holds, as a `Model`.
@@ -155,25 +166,36 @@ module _ (Meter : Type 0) (view : Meter → Model) where
   abbrev pub seen : Handed → Outcome
   seen h = record { refusal = h .refusal; sent = take (h .count) (h .after); next = view (h .meter) }
 
-module _ (Meter : Type 0) (view : Meter → Model) (p : Protocol) where
   -- what the function behind a call promises of what it hands back: this is its `ensures`
-  abbrev pub Promised : Call → Meter → Handed Meter view → Type 0
-  Promised c m h = Gave Meter view (step p c (view m)) h
+  abbrev pub Promised : Protocol → Call → Meter → Handed → Type 0
+  Promised p c m h = Gave (step p c (view m)) h
 
-  -- a list of calls is run: each call gets the meter that the last one handed back
-  abbrev pub Run : Meter → List Call → List (Handed Meter view) → Type 0
-  Run m [] [] = Unit {0}
-  Run m [] (h ∷ hs) = ⊥
-  Run m (c ∷ cs) [] = ⊥
-  Run m (c ∷ cs) (h ∷ hs) = Promised c m h × Run (h .meter) cs hs
+  -- a list of calls is run, and this is handed back: "each call gets the meter that the last one handed back"
+  pub data Run (p : Protocol) : Meter → List Call → List Handed → Type 0 where
+    noneRun : {m : Meter} → Run p m [] []
+    moreRun :
+        {m : Meter} {c : Call} {cs : List Call} {h : Handed} {hs : List Handed}
+        → Promised p c m h
+        → Run p (h .meter) cs hs
+        → Run p m (c ∷ cs) (h ∷ hs)
 
-  -- Demand 3: any set of registers, any two meters that are alike but for these, the same list of calls; whatever the two
-  -- runs hand back, and whatever their reply rooms held before
-  abbrev pub Demand3 : Type 0
-  Demand3 =
-      (ch : Chosen) (m₁ m₂ : Meter) (cs₁ cs₂ : List Call) (hs₁ hs₂ : List (Handed Meter view))
+  -- demand 3, in the customer's words
+  abbrev pub Demand3 : Protocol → Type 0
+  Demand3 p =
+      -- "choose any set of registers"
+      (ch : Chosen)
+      -- "any two meters, sound or not"
+      → (m₁ m₂ : Meter)
+      -- "frame calls and owner's calls, refused ones included, as long as you like and in any order"
+      → (cs₁ cs₂ : List Call)
+      -- whatever the calls hand back, and whatever "reply rooms held before", in each run
+      → (hs₁ hs₂ : List Handed)
+      -- "alike but for the values of these registers and the cells recorded from them"
       → Alike ch (view m₁) (view m₂)
+      -- "give both the same list"; "only values written to those registers may differ"
       → AlikeCalls ch cs₁ cs₂
-      → Run m₁ cs₁ hs₁
-      → Run m₂ cs₂ hs₂
-      → SameOutcomes p ch cs₁ (view m₁) (map (seen Meter view) hs₁) (map (seen Meter view) hs₂)
+      -- "each call gets the meter that the last one handed back"
+      → Run p m₁ cs₁ hs₁
+      → Run p m₂ cs₂ hs₂
+      -- "for every such list, each call then has .."
+      → SameOutcomes p ch cs₁ (view m₁) (map seen hs₁) (map seen hs₂)

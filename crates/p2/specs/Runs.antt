@@ -17,15 +17,18 @@ pub data Ensured (m : Meter) : Call → Handed Meter view → Type 0 where
   receives : (a : Lent) (before after : List ℕ) (r : Received) → Answered a m before after r → Ensured m (frame a) (handed r before after)
   owns : (c : OwnerCall) (r : Changed) → Owned c m r → Ensured m (owner c) (handedByOwner r)
 
--- a list of calls is made
-abbrev pub Runs : Meter → List Call → List (Handed Meter view) → Type 0
-Runs m [] [] = Unit {0}
-Runs m [] (h ∷ hs) = ⊥
-Runs m (c ∷ cs) [] = ⊥
-Runs m (c ∷ cs) (h ∷ hs) = Ensured m c h × Runs (h .meter) cs hs
+-- a list of calls is made: "each call gets the meter that the last one handed back"
+pub data Runs : Meter → List Call → List (Handed Meter view) → Type 0 where
+  none : {m : Meter} → Runs m [] []
+  more :
+      {m : Meter} {c : Call} {cs : List Call} {h : Handed Meter view} {hs : List (Handed Meter view)}
+      → Ensured m c h
+      → Runs (h .meter) cs hs
+      → Runs m (c ∷ cs) (h ∷ hs)
 
 -- "whoever is not granted a read of a register learns nothing of its value": two meters that are alike but for the chosen
--- registers, the same list of calls, whatever the two runs hand back
+-- registers, the same list of calls, whatever the two runs hand back. The model's `Demand3` has the customer's words beside
+-- each premise; only the runs differ.
 abbrev pub RunsDemand3 : Type 0
 RunsDemand3 =
     (ch : Chosen) (m₁ m₂ : Meter) (cs₁ cs₂ : List Call) (hs₁ hs₂ : List (Handed Meter view))
