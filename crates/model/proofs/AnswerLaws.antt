@@ -209,7 +209,7 @@ module _ (ch : Chosen) where
 
   method-after : (x : Content) (b : Body) → hideBody ch (afterMethod x b) ≡ hideBody ch (afterMethod (hideContent x) (hideBody ch b))
   method-after (simple y) b = body-twice b
-  method-after rows b = emptied-twice b
+  method-after rows b = rw (registers-twice ch (b .store .registers))
   method-after recordNumber b = body-twice (withNumber 0 b)
   method-after (register r) b = body-twice b
 

@@ -1,7 +1,7 @@
 -- A due tick adds one row and alters none, and no call removes a row but those that empty the profile: the statements on rows
 -- of specs/Archive, proved.
 use mathlib.Core.Path.{_≡_, refl, _∙_, ap}
-use mathlib.Core.Bool.{Bool, true, false, cond}
+use mathlib.Core.Bool.{Bool, true, false, cond, _&&_}
 use mathlib.Core.List.{List, _∷_}
 use Prim.Native.Nat.{ℕ, zero, suc, _-_, _<_}
 use native.Mathlib.Omega.{arith}
@@ -10,17 +10,16 @@ use lib.Seq.{take-all}
 use lib.Dec.{eqb, lit<}
 use Rattle.model.specs.declared.Name.{Name}
 use Rattle.model.specs.declared.Clock.{Clock}
-use Rattle.model.specs.declared.Register.{Register}
 use Rattle.model.specs.Limits.{maxRows}
-use Rattle.model.specs.Names.{sameName, given}
-use Rattle.model.specs.Clocks.{validClock}
-use Rattle.model.specs.Periods.{permittedPeriod, captureDue}
+use Rattle.model.specs.Names.{sameName}
+use Rattle.model.specs.Periods.{captureDue}
 use Rattle.model.specs.State.{Line, Body, Model, withBody, withClock}
-use Rattle.model.specs.Soundness.{acceptedRegisters, acceptedColumns, sound}
+use Rattle.model.specs.Soundness.{sound}
 use Rattle.model.specs.Objects.{Content, simple, rows, recordNumber, register, Meaning, known, unknown, meaning, Service, get, action, Request, Result, granted, denied, refusalOf, methodInvoked, afterMethod, afterAction, answered, turned, profileNamed}
 use Rattle.model.specs.Calls.{Lent, Call, frame, owner, OwnerCall, ownRefusal, obeyed, giveRegisters, setValue, setColumns, setPeriod, tick, setP5, powerUp, Outcome, done, Wrap, Decision, answer, serve, Protocol, decided, rowNow, captured, ticked, act, early, step}
 use Rattle.model.specs.Archive.{OneMore, DueTicks, onProfile, resets, mayEmpty, RowsAfter, stay, grow, empty, RowsStay}
-use Rattle.model.proofs.ObjectLaws.{Tells, Means, meaning-tells}
+use Rattle.model.proofs.ListLaws.{by-test}
+use Rattle.model.proofs.ObjectLaws.{Acts, ActsBy, action-acts}
 
 -- of k at most, the first stands in front of all but the last of the others
 take-front : {A : Type 0} (k : ℕ) (x : A) (xs : List A) → 0 < k → take k (x ∷ xs) ≡ x ∷ take (k - 1) xs
@@ -49,23 +48,19 @@ unfolding step act
 due-ticks p m t s v d = rw (s, v) (ticked-more t (m .body) d)
 
 module _ (p : Protocol) (m : Model) where
-  rows-if : (c : Call) (b : Bool) (o q : Outcome) → (b ≡ true → RowsAfter p c m o) → (b ≡ false → RowsAfter p c m q) → RowsAfter p c m (cond b o q)
-  rows-if c true o q x y = x refl
-  rows-if c false o q x y = y refl
-
-  -- the rows after an ACTION that was granted: as they were, or none, where it is on the profile
-  method-rows : (c : Call) (o : Outcome) (x : Content) (n : Name) (rs : List Register) → Tells x n rs → (sameName profileNamed n ≡ true → mayEmpty p c (m .line) ≡ true)
+  -- the rows after an ACTION that was granted: as they were, or none, where it is method 1 of the profile
+  method-rows : (c : Call) (o : Outcome) (x : Content) (n : Name) (j : ℕ) → Acts x n j → (sameName profileNamed n && eqb j 1 ≡ true → mayEmpty p c (m .line) ≡ true)
       → o .refusal ≡ 0 → o .next .body ≡ afterMethod x (m .body) → RowsAfter p c m o
-  method-rows c o (simple y) n rs t k z e = stay (ap (λ (b : Body). b .store .rows) e)
-  method-rows c o rows n rs t k z e = empty (k t) z (ap (λ (b : Body). b .store .rows) e)
-  method-rows c o recordNumber n rs t k z e = stay (ap (λ (b : Body). b .store .rows) e)
-  method-rows c o (register r) n rs t k z e = stay (ap (λ (b : Body). b .store .rows) e)
+  method-rows c o (simple y) n j t k z e = stay (ap (λ (b : Body). b .store .rows) e)
+  method-rows c o rows n j t k z e = empty (k t) z (ap (λ (b : Body). b .store .rows) e)
+  method-rows c o recordNumber n j t k z e = stay (ap (λ (b : Body). b .store .rows) e)
+  method-rows c o (register r) n j t k z e = stay (ap (λ (b : Body). b .store .rows) e)
 
-  action-rows : (c : Call) (o : Outcome) (w : Meaning) (r : Result) (n : Name) (rs : List Register) → Means w n rs → (sameName profileNamed n ≡ true → mayEmpty p c (m .line) ≡ true)
+  action-rows : (c : Call) (o : Outcome) (w : Meaning) (r : Result) (n : Name) (j : ℕ) → ActsBy w r n j → (sameName profileNamed n && eqb j 1 ≡ true → mayEmpty p c (m .line) ≡ true)
       → o .refusal ≡ refusalOf r → o .next .body ≡ afterAction w (m .body) r → RowsAfter p c m o
-  action-rows c o unknown r n rs t k z e = stay (ap (λ (b : Body). b .store .rows) e)
-  action-rows c o (known x) (granted d) n rs t k z e = method-rows c o (x .content) n rs t k z e
-  action-rows c o (known x) (denied d) n rs t k z e = stay (ap (λ (b : Body). b .store .rows) e)
+  action-rows c o unknown r n j t k z e = stay (ap (λ (b : Body). b .store .rows) e)
+  action-rows c o (known x) (granted d) n j t k z e = method-rows c o (x .content) n j t k z e
+  action-rows c o (known x) (denied d) n j t k z e = stay (ap (λ (b : Body). b .store .rows) e)
 
   served-rows : (a : Lent) (q : Request) (v : Service) (w : Wrap) (l : Line) (o : Outcome) → (p .decide) (m .line) a ≡ serve q w l → q .service ≡ v
       → o .refusal ≡ answered q (m .body) (meaning (q .client) (q .name) (m .body .store .registers)) v .refusal
@@ -73,7 +68,7 @@ module _ (p : Protocol) (m : Model) where
   served-rows a q (get k s) w l o d e z f = stay (ap (λ (b : Body). b .store .rows) f)
   served-rows a q (action k v) w l o d e z f =
       action-rows (frame a) o (meaning (q .client) (q .name) (m .body .store .registers)) (methodInvoked q k v (meaning (q .client) (q .name) (m .body .store .registers)))
-      (q .name) (m .body .store .registers) (meaning-tells (q .client) (q .name) (m .body .store .registers))
+      (q .name) k (action-acts q k v (m .body .store .registers))
       (λ h. ap resets d ∙ ap (onProfile (q .name)) e ∙ h) z f
 
   owner-rows : (o : OwnerCall) → RowsAfter p (owner o) m (done (obeyed o m))
@@ -97,11 +92,11 @@ module _ (p : Protocol) (m : Model) where
       go : (d : Decision) → (p .decide) (m .line) a ≡ d → RowsAfter p (frame a) m (decided p d m)
       go (answer s) e = stay refl
       go (serve q w l) e = served-rows a q (q .service) w l (decided p (serve q w l) m) e refl refl refl
-  act-rows (owner o) = rows-if (owner o) (eqb (ownRefusal o m) 0) _ _ (λ _. owner-rows o) (λ _. stay refl)
+  act-rows (owner o) = by-test (RowsAfter p (owner o) m) (eqb (ownRefusal o m) 0) (λ _. owner-rows o) (λ _. stay refl)
 
 pub rows-stay : (p : Protocol) → RowsStay p
 unfolding step
 rows-stay p c m =
-    rows-if p m c (eqb (early c) 0) _ _
-    (λ _. rows-if p m c (sound m) _ _ (λ _. act-rows p m c) (λ _. stay refl))
+    by-test (RowsAfter p c m) (eqb (early c) 0)
+    (λ _. by-test (RowsAfter p c m) (sound m) (λ _. act-rows p m c) (λ _. stay refl))
     (λ _. stay refl)

@@ -1,38 +1,33 @@
 -- The record number is never invented: the statement on it of specs/Archive, proved.
 use mathlib.Core.Path.{_≡_, refl, _∙_, ap}
-use mathlib.Core.Bool.{Bool, true, false, cond}
-use mathlib.Core.List.{List}
+use mathlib.Core.Bool.{Bool, true, false, cond, _&&_}
+use Prim.Native.Nat.{ℕ}
 use lib.Dec.{eqb}
 use Rattle.model.specs.declared.Name.{Name}
-use Rattle.model.specs.declared.Register.{Register}
-use Rattle.model.specs.Names.{sameName, given}
-use Rattle.model.specs.Clocks.{validClock}
-use Rattle.model.specs.Periods.{permittedPeriod, captureDue}
+use Rattle.model.specs.Names.{sameName}
+use Rattle.model.specs.Periods.{captureDue}
 use Rattle.model.specs.State.{Line, Body, Model, withBody, withClock}
-use Rattle.model.specs.Soundness.{acceptedRegisters, acceptedColumns, sound}
+use Rattle.model.specs.Soundness.{sound}
 use Rattle.model.specs.Objects.{recordNumberNamed, Content, simple, rows, recordNumber, register, Meaning, known, unknown, meaning, Service, get, action, Request, Result, granted, denied, refusalOf, methodInvoked, afterMethod, afterAction, answered, turned}
 use Rattle.model.specs.Calls.{Lent, Call, frame, owner, OwnerCall, ownRefusal, obeyed, giveRegisters, setValue, setColumns, setPeriod, tick, setP5, powerUp, Outcome, done, Wrap, Decision, answer, serve, Protocol, decided, captured, ticked, act, early, step}
 use Rattle.model.specs.Archive.{onRecordNumber, renumbers, mayReset, NumberAfter, same, next, reset, NumberStays}
-use Rattle.model.proofs.ObjectLaws.{Tells, Means, meaning-tells}
+use Rattle.model.proofs.ListLaws.{by-test}
+use Rattle.model.proofs.ObjectLaws.{Acts, ActsBy, action-acts}
 
 module _ (p : Protocol) (m : Model) where
-  number-if : (c : Call) (b : Bool) (o q : Outcome) → (b ≡ true → NumberAfter p c m o) → (b ≡ false → NumberAfter p c m q) → NumberAfter p c m (cond b o q)
-  number-if c true o q x y = x refl
-  number-if c false o q x y = y refl
-
-  -- after an ACTION that was granted: as it was, or 0 where it is on the record number
-  method-number : (c : Call) (o : Outcome) (x : Content) (n : Name) (rs : List Register) → Tells x n rs → (sameName recordNumberNamed n ≡ true → mayReset p c (m .line) ≡ true)
+  -- after an ACTION that was granted: as it was, or 0 where it is method 1 of the record number
+  method-number : (c : Call) (o : Outcome) (x : Content) (n : Name) (j : ℕ) → Acts x n j → (sameName recordNumberNamed n && eqb j 1 ≡ true → mayReset p c (m .line) ≡ true)
       → o .refusal ≡ 0 → o .next .body ≡ afterMethod x (m .body) → NumberAfter p c m o
-  method-number c o (simple y) n rs t k z e = same (ap (λ (b : Body). b .number) e)
-  method-number c o rows n rs t k z e = same (ap (λ (b : Body). b .number) e)
-  method-number c o recordNumber n rs t k z e = reset (k t) z (ap (λ (b : Body). b .number) e)
-  method-number c o (register r) n rs t k z e = same (ap (λ (b : Body). b .number) e)
+  method-number c o (simple y) n j t k z e = same (ap (λ (b : Body). b .number) e)
+  method-number c o rows n j t k z e = same (ap (λ (b : Body). b .number) e)
+  method-number c o recordNumber n j t k z e = reset (k t) z (ap (λ (b : Body). b .number) e)
+  method-number c o (register r) n j t k z e = same (ap (λ (b : Body). b .number) e)
 
-  action-number : (c : Call) (o : Outcome) (w : Meaning) (r : Result) (n : Name) (rs : List Register) → Means w n rs → (sameName recordNumberNamed n ≡ true → mayReset p c (m .line) ≡ true)
+  action-number : (c : Call) (o : Outcome) (w : Meaning) (r : Result) (n : Name) (j : ℕ) → ActsBy w r n j → (sameName recordNumberNamed n && eqb j 1 ≡ true → mayReset p c (m .line) ≡ true)
       → o .refusal ≡ refusalOf r → o .next .body ≡ afterAction w (m .body) r → NumberAfter p c m o
-  action-number c o unknown r n rs t k z e = same (ap (λ (b : Body). b .number) e)
-  action-number c o (known x) (granted d) n rs t k z e = method-number c o (x .content) n rs t k z e
-  action-number c o (known x) (denied d) n rs t k z e = same (ap (λ (b : Body). b .number) e)
+  action-number c o unknown r n j t k z e = same (ap (λ (b : Body). b .number) e)
+  action-number c o (known x) (granted d) n j t k z e = method-number c o (x .content) n j t k z e
+  action-number c o (known x) (denied d) n j t k z e = same (ap (λ (b : Body). b .number) e)
 
   served-number : (a : Lent) (q : Request) (v : Service) (w : Wrap) (l : Line) (o : Outcome) → (p .decide) (m .line) a ≡ serve q w l → q .service ≡ v
       → o .refusal ≡ answered q (m .body) (meaning (q .client) (q .name) (m .body .store .registers)) v .refusal
@@ -40,7 +35,7 @@ module _ (p : Protocol) (m : Model) where
   served-number a q (get k s) w l o d e z f = same (ap (λ (b : Body). b .number) f)
   served-number a q (action k v) w l o d e z f =
       action-number (frame a) o (meaning (q .client) (q .name) (m .body .store .registers)) (methodInvoked q k v (meaning (q .client) (q .name) (m .body .store .registers)))
-      (q .name) (m .body .store .registers) (meaning-tells (q .client) (q .name) (m .body .store .registers))
+      (q .name) k (action-acts q k v (m .body .store .registers))
       (λ h. ap renumbers d ∙ ap (onRecordNumber (q .name)) e ∙ h) z f
 
   owner-number : (o : OwnerCall) → NumberAfter p (owner o) m (done (obeyed o m))
@@ -65,11 +60,11 @@ module _ (p : Protocol) (m : Model) where
       go (answer s) e = same refl
       go (serve q w l) e =
           served-number a q (q .service) w l (decided p (serve q w l) m) e refl refl refl
-  act-number (owner o) = number-if (owner o) (eqb (ownRefusal o m) 0) _ _ (λ _. owner-number o) (λ _. same refl)
+  act-number (owner o) = by-test (NumberAfter p (owner o) m) (eqb (ownRefusal o m) 0) (λ _. owner-number o) (λ _. same refl)
 
 pub number-stays : (p : Protocol) → NumberStays p
 unfolding step
 number-stays p c m =
-    number-if p m c (eqb (early c) 0) _ _
-    (λ _. number-if p m c (sound m) _ _ (λ _. act-number p m c) (λ _. same refl))
+    by-test (NumberAfter p c m) (eqb (early c) 0)
+    (λ _. by-test (NumberAfter p c m) (sound m) (λ _. act-number p m c) (λ _. same refl))
     (λ _. same refl)

@@ -6,6 +6,7 @@ use mathlib.Core.Bool.{Bool, true, false, _&&_}
 use mathlib.Core.List.{List, [], _∷_, map}
 use Prim.Native.Nat.{ℕ, _+_, _-_, _%_, _<_}
 use lib.ListN.{length, take}
+use lib.Dec.{eqb}
 use Rattle.model.specs.declared.Name.{Name}
 use Rattle.model.specs.declared.Clock.{Clock}
 use Rattle.model.specs.Limits.{maxRows}
@@ -44,11 +45,12 @@ DueTicks p =
     → captureDue (m .body .period) t ≡ true
     → OneMore t (m .body) (step p (owner (tick t)) m .next .body)
 
--- The calls that may empty the rows: give registers, set columns, power-up, and an ACTION on the profile.
+-- The calls that may empty the rows: give registers, set columns, power-up, and an ACTION on the profile, "0.0.21.0.6.255 ..
+-- method 1 empties the rows".
 
 abbrev pub onProfile : Name → Service → Bool
 onProfile n (get a s) = false
-onProfile n (action k v) = sameName profileNamed n
+onProfile n (action k v) = sameName profileNamed n && eqb k 1
 
 abbrev pub resets : Decision → Bool
 resets (answer s) = false
@@ -76,12 +78,12 @@ pub data RowsAfter (p : Protocol) (c : Call) (m : Model) (o : Outcome) : Type 0 
 abbrev pub RowsStay : Protocol → Type 0
 RowsStay p = (c : Call) (m : Model) → RowsAfter p c m (step p c m)
 
--- The record number: it stays; or it grows by one, at a due tick; or it is set to 0, by power-up or an accepted ACTION on the
--- record number object.
+-- The record number: it stays; or it grows by one, at a due tick; or it is set to 0, by power-up or an accepted ACTION on its
+-- object, "0.0.96.15.3.255 .. method 1 sets 0".
 
 abbrev pub onRecordNumber : Name → Service → Bool
 onRecordNumber n (get a s) = false
-onRecordNumber n (action k v) = sameName recordNumberNamed n
+onRecordNumber n (action k v) = sameName recordNumberNamed n && eqb k 1
 
 abbrev pub renumbers : Decision → Bool
 renumbers (answer s) = false
