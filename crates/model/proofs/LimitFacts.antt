@@ -1,12 +1,10 @@
--- The derived lengths are the numbers of document 01.
+-- The derived lengths are the numbers of document 01: each as a law that other proofs use, and last the statement of specs/Lengths.
 use mathlib.Core.Path.{_≡_, refl}
-use mathlib.Core.List.{List, flatMap}
-use Prim.Native.Nat.{ℕ}
-use lib.ListN.{length, replicate}
+use mathlib.Core.List.{flatMap}
 use Rattle.wire.specs.Numbers.{lengthField}
-use Rattle.model.specs.State.{Entry, newClock}
-use Rattle.model.specs.Objects.{denied, rowData, rowsData, fitting}
-use Rattle.model.specs.Limits.{maxRows, longestSent, longestReceived, replyRoom, apduRoom, envelopeLength, greatestText, textRoom, dataRoom, leastSize, greatestLength, toldSize}
+use Rattle.model.specs.Objects.{rowData, rowsData, fitting}
+use Rattle.model.specs.Limits.{maxRows, longestSent, longestReceived, replyRoom, apduRoom, envelopeLength, greatestText, textRoom, dataRoom, leastSize, greatestLength, greatestApdu, toldSize}
+use Rattle.model.specs.Lengths.{NamedLengths}
 
 pub reply-room : replyRoom longestSent ≡ 779
 unfolding replyRoom longestSent
@@ -36,19 +34,18 @@ pub told-size : toldSize longestReceived ≡ 768
 unfolding toldSize longestReceived
 told-size = refl
 
--- "Six columns and 15 rows take 737; seven take 812 and answer 250."
-
-abbrev pub rowsOfCells : ℕ → List Entry
-rowsOfCells n = replicate maxRows (record { number = 1; clock = newClock; cells = replicate n 0 })
-
-pub six-columns : length (rowsData (rowsOfCells 6)) ≡ 737
-unfolding maxRows rowsData rowData flatMap lengthField
-six-columns = refl
-
-pub seven-columns : length (rowsData (rowsOfCells 7)) ≡ 812
-unfolding maxRows rowsData rowData flatMap lengthField
-seven-columns = refl
-
-pub seven-refused : fitting (rowsData (rowsOfCells 7)) ≡ denied 250
-unfolding fitting dataRoom textRoom apduRoom longestSent greatestText envelopeLength maxRows rowsData rowData flatMap lengthField
-seven-refused = refl
+pub named-lengths : NamedLengths
+unfolding greatestApdu longestReceived fitting dataRoom textRoom apduRoom longestSent greatestText envelopeLength maxRows rowsData rowData flatMap lengthField
+named-lengths =
+    record {
+      reply = reply-room;
+      limit = greatest-length;
+      sent = apdu-room;
+      received = refl;
+      proposed = least-size;
+      told = told-size;
+      room = data-room;
+      six = refl;
+      seven = refl;
+      long = refl;
+    }

@@ -19,7 +19,7 @@ use Rattle.model.specs.Periods.{permittedPeriod, captureDue}
 use Rattle.model.specs.Soundness.{acceptedRegisters, acceptedColumns, sound}
 use Rattle.model.specs.Objects.{rows, Service, get, action}
 use Rattle.model.specs.Calls.{Call, frame, owner, OwnerCall, ownRefusal, obeyed, giveRegisters, setValue, setColumns, setPeriod, tick, setP5, powerUp, Outcome, done, refused, Decision, answer, serve, Protocol, KeepsLengths, decided, captured, ticked, rowNow, nextNumber, withGiven, withAssigned, withColumns, poweredLine, act, early, step, trace}
-use Rattle.model.specs.Demand3.{Chosen, hide, hideRegister, hideBody, hidden, hiddenOwner, hiddenCall, Alike, AlikeCalls, asksChosen, decidesRead, reads, SameOutcome, SameOutcomes, noneSame, moreSame, TraceDemand3, Handed, Gave, seen, Run, noneRun, moreRun, Demand3}
+use Rattle.model.specs.Demand3.{Chosen, hide, hideRegister, hideBody, hidden, hiddenOwner, hiddenCall, Alike, AlikeCalls, asksChosen, decidesRead, reads, SameOutcome, SameOutcomes, noneSame, moreSame, TraceDemand3, Handed, Gave, seen, noneRun, moreRun, RunIsTrace, Demand3}
 use Rattle.model.proofs.ListLaws.{passed}
 use Rattle.model.proofs.HidingLaws.{registers-twice, sound-hidden, given-hidden, assigned-hidden, accepted-hidden, columns-hidden, row-hidden, rows-pushed, rows-twice}
 use Rattle.model.proofs.AnswerLaws.{turned-close, body-twice, emptied-twice}
@@ -193,8 +193,7 @@ module _ (Meter : Type 0) (view : Meter → Model) where
         next = g .meter i;
       }
 
-  -- every run has the numbers, the bytes and the meters of the trace
-  pub run-trace : (p : Protocol) (m : Meter) (cs : List Call) (hs : List (Handed Meter view)) → Run Meter view p m cs hs → map (seen Meter view) hs ≡ trace p cs (view m)
+  pub run-trace : (p : Protocol) → RunIsTrace Meter view p
   unfolding trace
   run-trace p m [] [] noneRun = refl
   run-trace p m (c ∷ cs) (h ∷ hs) (moreRun g x) =

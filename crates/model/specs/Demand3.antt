@@ -179,6 +179,10 @@ module _ (Meter : Type 0) (view : Meter → Model) where
         → Run p (h .meter) cs hs
         → Run p m (c ∷ cs) (h ∷ hs)
 
+  -- every run has the numbers, the bytes and the meters of the model's trace, call by call
+  abbrev pub RunIsTrace : Protocol → Type 0
+  RunIsTrace p = (m : Meter) (cs : List Call) (hs : List Handed) → Run p m cs hs → map seen hs ≡ trace p cs (view m)
+
   -- demand 3, in the customer's words
   abbrev pub Demand3 : Protocol → Type 0
   Demand3 p =

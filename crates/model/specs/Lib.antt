@@ -5,6 +5,7 @@ pub mod Periods
 pub mod Services
 pub mod State
 pub mod Objects
+pub mod Lengths
 pub mod WorkedAnswers
 pub mod Soundness
 pub mod Calls

@@ -1,5 +1,5 @@
 -- Lengths that follow from the two limits of the link, each a function of its limit alone (document 01, "The frame" and
--- "Objects and rows"). No derived number is written out: proofs/LimitFacts shows that they are 01's.
+-- "Objects and rows"). No derived number is written out: that they are 01's is stated in specs/Lengths.
 use mathlib.Core.Bool.{cond}
 use Prim.Native.Nat.{ℕ, zero, suc, _+_, _-_}
 use lib.ListN.{length}

@@ -1,7 +1,8 @@
 -- Worked answers of a body, byte by byte: each kind of data that a meter sends, and the answer to a method that V names, which
--- no frame reaches, since V is never let ask for one. proofs/WorkedAnswers shows that the definitions of specs/Objects give
--- them all. Kinds are those of document 01: 01 array, 02 structure, 06 and 12 numbers of 32 and 16 bits, 09 octet string,
+-- no frame reaches, since V is never let ask for one. The definitions of specs/Objects give them all (`AnswersHold`), which is
+-- proved in proofs/WorkedAnswers, by computation. Kinds are those of document 01: 01 array, 02 structure, 06 and 12 numbers of 32 and 16 bits, 09 octet string,
 -- 0A visible string, 0F integer, 16 enumeration. No other definition cites this table.
+use mathlib.Core.Path.{_≡_}
 use mathlib.Core.Bool.{Bool, true, _&&_}
 use mathlib.Core.List.{List, [], _∷_, _++_}
 use Prim.Native.Nat.{ℕ}
@@ -12,6 +13,7 @@ use Rattle.model.specs.declared.Clock.{Clock}
 use Rattle.model.specs.declared.Client.{Client}
 use Rattle.model.specs.declared.Client.the-variants.{Verification, Han}
 use Rattle.model.specs.declared.Register.{Register}
+use Rattle.model.specs.Names.{every}
 use Rattle.model.specs.State.{Body}
 use Rattle.model.specs.Objects.{named, get, action, all, absent, Service, turned}
 
@@ -71,3 +73,6 @@ workedAnswers =
     -- V's method 1 of the device name is not served
     ∷ answers Verification 1 (named 0 0 42 0 0 255) (action 1 absent) 13 (0xC7 ∷ 0x01 ∷ 0xC1 ∷ 0x03 ∷ 0x00 ∷ [])
     ∷ []
+
+abbrev pub AnswersHold : Type 0
+AnswersHold = every (λ i holds. holds) 0 workedAnswers ≡ true
