@@ -16,7 +16,7 @@ use Rattle.model.specs.Soundness.{acceptedRegisters, acceptedColumns, so
 use Rattle.model.specs.Objects.{meaning, Service, get, action, Request, Result, granted, denied, methodInvoked, attributeRead, answered, turned, refusalOf}
 use Rattle.model.specs.Calls.{refused, Lent, lentRefusal, Call, frame, owner, OwnerCall, ownRefusal, giveRegisters, setValue, setColumns, setPeriod, tick, setP5, powerUp, Outcome, Decision, answer, serve, Protocol, decided, act, early, step}
 use Rattle.model.specs.Archive.{frameNumbers, saidNumber, KnownNumbers, numbers, NumbersAllowed, keepingNumbers, RefusalsKeep}
-use Rattle.model.proofs.ListLaws.{both, every-anywhere}
+use Rattle.model.proofs.ListLaws.{both, by-test, every-anywhere}
 
 -- a number of the first list is none of the second, by a test of each entry of the first
 apart : (n : ℕ) (xs ys : List ℕ) → every (λ i x. not (listed x ys)) 0 xs ≡ true → listed n xs ≡ true → listed n ys ≡ true → ⊥
@@ -94,11 +94,6 @@ inside n (x ∷ xs) ys t e = go (eqb x n) refl e (λ j. inside n xs ys (every-an
     go true i j k = rw (eqb-true x n i) at (h .0)
     go false i j k = k j
 
--- an outcome that has the property, whichever of two it is
-number-if : (P : Outcome → Type 0) (b : Bool) (o q : Outcome) → (b ≡ true → P o) → P q → P (cond b o q)
-number-if P true o q x y = x refl
-number-if P false o q x y = y
-
 module _ (p : Protocol) (known-numbers : KnownNumbers p) (m : Model) where
   decided-number : (a : Lent) → listed (decided p ((p .decide) (m .line) a) m .refusal) frameNumbers ≡ true
   decided-number a = go ((p .decide) (m .line) a) (known-numbers (m .line) a)
@@ -111,7 +106,7 @@ module _ (p : Protocol) (known-numbers : KnownNumbers p) (m : Model) where
   unfolding act
   act-allowed (frame a) = inside (decided p ((p .decide) (m .line) a) m .refusal) frameNumbers (numbers (frame a)) refl (decided-number a)
   act-allowed (owner o) =
-      number-if (λ q. listed (q .refusal) (numbers (owner o)) ≡ true) (eqb (ownRefusal o m) 0) _ _ (λ _. refl) (own-allowed o m)
+      by-test (λ (q : Outcome). listed (q .refusal) (numbers (owner o)) ≡ true) (eqb (ownRefusal o m) 0) (λ _. refl) (λ _. own-allowed o m)
 
   -- a number of the keeping kind, and the outcome is that refusal
   abbrev Keeps : Outcome → Type 0
@@ -120,16 +115,16 @@ module _ (p : Protocol) (known-numbers : KnownNumbers p) (m : Model) where
   act-keeps : (c : Call) → Keeps (act p c m)
   unfolding act
   act-keeps (frame a) = λ e. absurd (apart (decided p ((p .decide) (m .line) a) m .refusal) frameNumbers keepingNumbers refl (decided-number a) e)
-  act-keeps (owner o) = number-if Keeps (eqb (ownRefusal o m) 0) _ _ (λ _ e. absurd (false≢true e)) (λ _. refl)
+  act-keeps (owner o) = by-test Keeps (eqb (ownRefusal o m) 0) (λ _ e. absurd (false≢true e)) (λ _ _. refl)
 
 pub numbers-allowed : (p : Protocol) → KnownNumbers p → NumbersAllowed p
 unfolding step
 numbers-allowed p h c m =
-    number-if (λ o. listed (o .refusal) (numbers c) ≡ true) (eqb (early c) 0) _ _
-    (λ _. number-if (λ o. listed (o .refusal) (numbers c) ≡ true) (sound m) _ _ (λ _. act-allowed p h m c) (three-allowed c))
-    (early-allowed c)
+    by-test (λ (o : Outcome). listed (o .refusal) (numbers c) ≡ true) (eqb (early c) 0)
+    (λ _. by-test (λ (o : Outcome). listed (o .refusal) (numbers c) ≡ true) (sound m) (λ _. act-allowed p h m c) (λ _. three-allowed c))
+    (λ _. early-allowed c)
 
 pub refusals-keep : (p : Protocol) → KnownNumbers p → RefusalsKeep p
 unfolding step
 refusals-keep p h c m =
-    number-if (Keeps p h m) (eqb (early c) 0) _ _ (λ _. number-if (Keeps p h m) (sound m) _ _ (λ _. act-keeps p h m c) (λ _. refl)) (λ _. refl)
+    by-test (Keeps p h m) (eqb (early c) 0) (λ _. by-test (Keeps p h m) (sound m) (λ _. act-keeps p h m c) (λ _ _. refl)) (λ _ _. refl)

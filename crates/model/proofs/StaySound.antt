@@ -20,7 +20,7 @@ use Rattle.model.specs.Soundness.{SoundnessTest, registerList, columnLis
 use Rattle.model.specs.Objects.{Content, simple, rows, recordNumber, register, Meaning, known, unknown, meaning, Service, get, action, Request, Result, granted, denied, methodInvoked, afterMethod, afterAction, answered, turned}
 use Rattle.model.specs.Calls.{Call, frame, owner, OwnerCall, ownRefusal, obeyed, giveRegisters, setValue, setColumns, setPeriod, tick, setP5, powerUp, Outcome, Decision, answer, serve, Protocol, decided, nextNumber, rowNow, captured, ticked, withGiven, withAssigned, withColumns, act, early, step}
 use Rattle.model.specs.Archive.{NewMeterSound, soundLine, lineAfter, KeepsLines, StaysSound}
-use Rattle.model.proofs.ListLaws.{both, both-true, every-anywhere, passed}
+use Rattle.model.proofs.ListLaws.{both, both-true, by-test, every-anywhere, passed}
 use Rattle.model.proofs.SoundnessLaws.{sound-passes, sound-from}
 
 pub new-meter-sound : NewMeterSound
@@ -179,10 +179,6 @@ good-turned q b g = go (meaning (q .client) (q .name) (b .store .registers)) (q 
     go w (action k v) = good-action w b (methodInvoked q k v w) g
 
 module _ (p : Protocol) (keeps : KeepsLines p) (m : Model) (s : sound m ≡ true) where
-  sound-if : (b : Bool) (o q : Outcome) → (b ≡ true → sound (o .next) ≡ true) → sound (q .next) ≡ true → sound (cond b o q .next) ≡ true
-  sound-if true o q x y = x refl
-  sound-if false o q x y = y
-
   body-sound : (b : Body) → GoodBody b → sound (withBody b m) ≡ true
   body-sound b g = sound-of (withBody b m) g (good-line m s)
 
@@ -202,9 +198,11 @@ module _ (p : Protocol) (keeps : KeepsLines p) (m : Model) (s : sound m ≡ true
       go : (d : Decision) → soundLine (lineAfter d) ≡ true → sound (decided p d m .next) ≡ true
       go (answer x) e = sound-of (withLine (x .line) m) (good-body m s) e
       go (serve q w l) e = sound-of _ (good-turned q (m .body) (good-body m s)) e
-  act-sound (owner o) = sound-if (eqb (ownRefusal o m) 0) _ _ (λ z. owner-sound o (eqb-true (ownRefusal o m) 0 z)) s
+  act-sound (owner o) = by-test (λ (q : Outcome). sound (q .next) ≡ true) (eqb (ownRefusal o m) 0) (λ z. owner-sound o (eqb-true (ownRefusal o m) 0 z)) (λ _. s)
 
 pub stays-sound : (p : Protocol) → KeepsLines p → StaysSound p
 unfolding step
 stays-sound p keeps c m s =
-    sound-if p keeps m s (eqb (early c) 0) _ _ (λ _. sound-if p keeps m s (sound m) _ _ (λ _. act-sound p keeps m s c) s) s
+    by-test (λ (o : Outcome). sound (o .next) ≡ true) (eqb (early c) 0)
+    (λ _. by-test (λ (o : Outcome). sound (o .next) ≡ true) (sound m) (λ _. act-sound p keeps m s c) (λ _. s))
+    (λ _. s)
