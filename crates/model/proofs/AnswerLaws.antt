@@ -159,7 +159,7 @@ module _ (ch : Chosen) where
   near-rows n a s b (these rs) h =
       near-shown rows rows n a b (hideBody ch b) rs (map (hideEntry ch (b .store .columns)) rs) _ (sym (length-rows ch (b .store .columns) rs)) same refl
     where
-      same : asksChosen ch n (get a s) (b .store) ≡ false → eqb a 2 ≡ true → rowsData rs ≡ rowsData (map (hideEntry ch (b .store .columns)) rs)
+      same : asksChosen ch n (get a s) (b .store) ≡ false → eqb a 2 ≡ true → valueData rows rs b ≡ valueData rows (map (hideEntry ch (b .store .columns)) rs) (hideBody ch b)
       same f i = ap rowsData (sym (rows-kept ch (b .store .columns) rs (rw (i, h) at f)))
 
   near-register : (n : Name) (a : ℕ) (b : Body) (r : Register) (rs ts : List Entry) → sameName profileNamed n ≡ false → given n (b .store .registers) ≡ true → r .name ≡ n
