@@ -50,7 +50,8 @@ told n k l = record { refusal = n; count = k; line = l }
 abbrev pub meterWith : LineState → BodyState → Meter
 meterWith l b = record { line = l; body = b }
 
--- the tag byte of a request in its envelope: D0 for GET, else D3
+-- the tag byte of a request in its envelope: D0 for GET, D3 for ACTION. It is asked for of these two alone, and is then the tag
+-- that the ruling has: `request-ruled` of proofs/Requests. The other clauses say nothing of a frame.
 abbrev pub requestByte : Tag → ℕ
 requestByte DedGetRequest = 0xD0
 requestByte DedActionRequest = 0xD3

@@ -20,7 +20,7 @@ ghost use Rattle.acse.specs.Initiate.{readRequest};
 ghost use Rattle.envelope.specs.Opening.{opened};
 ghost use Rattle.line.specs.View.{lineOf};
 ghost use Rattle.protocol.specs.Clients.{lentKeys, peer};
-ghost use Rattle.protocol.specs.Rulings.{aarqNotAccepted, refuses};
+ghost use Rattle.protocol.specs.Rulings.{refusedAarq};
 ghost use Rattle.protocol.specs.Decide.{acceptedCiphered, acceptedPlain, associating, enclosed, initiated};
 ghost use Rattle.p2.specs.Promise.{Tells, TellsWith};
 
@@ -57,7 +57,7 @@ pub fn associate(
 // The AARE that does not accept.
 fn reject_aarq(line: LineState, client: Client, head: Head, out: &mut [u8]) -> Told
     requires { ⌜ replyRoom longestSent ≤ length (now out) ⌝ }
-    ensures { λ r. ⌜ Tells (refuses aarqNotAccepted client head (lineOf line)) line (now (out .entry)) (now (out .exit)) r ⌝ }
+    ensures { λ r. ⌜ Tells (refusedAarq client head (lineOf line)) line (now (out .entry)) (now (out .exit)) r ⌝ }
 {
     let count = replies::send_rejected(out, head, client);
     Told {

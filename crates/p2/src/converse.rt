@@ -72,7 +72,7 @@ fn converse(
     by_tag(meter, secrets, client, head, apdu, tag, out)
 }
 
-// An APDU by its tag.
+// An APDU by its tag. `converse` has refused the last four before.
 fn by_tag(
     meter: Meter,
     secrets: Secrets,
@@ -101,7 +101,7 @@ fn by_tag(
     }
 }
 
-// The tag byte of a request in its envelope: D0 for GET, else D3.
+// The tag byte of a request in its envelope: D0 for GET, D3 for ACTION. `by_tag` asks for these two alone.
 fn request_byte(tag: Tag) -> u8
     ensures { λ r. ⌜ r ≡ requestByte tag ⌝ }
 {

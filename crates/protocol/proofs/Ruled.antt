@@ -56,7 +56,7 @@ use Rattle.protocol.specs.declared.Secrets.{Secrets}
 use Rattle.protocol.specs.Clients.{peer, associates, agreedIn, clientChallenge, selectiveIn, lentKeys, dedicatedKeys, isPending, isAssociated, permitted, bitAgreed, isUnknown}
 use Rattle.protocol.specs.Rulings.{Test, none as noTest, frame, linkUpWithInformation, p5HoldsV, linkDownWhileDown, dataWhileDown, unknownTag, tagNotPermitted, bitNotAgreed, aarqNotAccepted, envelopeUnopened, outsideWindow, malformedApdu, notTheChallenge, refusalOf, nothing, ua, dm, reject, apdu, Ruling, says, asks}
 use Rattle.protocol.specs.Outcomes.{apduOf, Enclosed, get, action, Opens, underGuk, underKey}
-use Rattle.protocol.specs.Decide.{heldByP5, linkUp, linkDown, acceptedPlain, acceptedCiphered, initiated, enclosed, associating, released, wrap, asked, accepted, advanced, askedInside, readInside, isChallenge, provesItself, provedText, proved, disproved, challenged, answeredChallenge, admitted, challengeEnclosed, requestEnclosed, byTag, conversed, carried, heard, secretsOf, ruled}
+use Rattle.protocol.specs.Decide.{heldByP5, linkUp, linkDown, acceptedPlain, acceptedCiphered, initiated, enclosed, associating, released, wrap, asked, accepted, advanced, askedInside, readInside, isChallenge, provesItself, provedText, proved, disproved, challenged, answeredChallenge, admitted, challengeEnclosed, requestEnclosed, byTag, conversed, set, plainAction, enclosedSet, unknown, Unreached, carried, heard, secretsOf, ruled}
 
 -- the frame is this client's
 abbrev pub From : Client → List ℕ → Type 0
@@ -282,3 +282,10 @@ module _ (l : Line) (a : Secrets) (f : List ℕ) where
 pub rules : (l : Line) (a : Lent) → Ruled l (secretsOf a) (a .received) (ruled l a)
 unfolding ruled
 rules l a = rules-heard l (secretsOf a) (a .received) (readFrame (a .received)) (read-told (a .received))
+
+-- four tags are refused before `byTag` is asked
+pub unreached : Unreached
+unreached SetRequest set l c h x y = refl
+unreached ActionRequest plainAction l c h x y = refl
+unreached DedSetRequest enclosedSet l c h x y = refl
+unreached Unknown unknown l c h x y = refl

@@ -1,6 +1,7 @@
 -- `decide` and `seal` of document 01: the tests of a frame on a sound meter in its order, what goes out, and the line
 -- afterwards ("The frame", "The association", "The envelope and its counters", "What goes out"). It sees the line and what is
 -- lent, and never the body: a request that passes every test is handed to it.
+use mathlib.Core.Path.{_≡_}
 use mathlib.Core.Bool.{Bool, true, false, cond, not, _&&_}
 use mathlib.Core.List.{List, [], _∷_, _++_}
 use Prim.Native.Nat.{ℕ, _+_}
@@ -27,7 +28,8 @@ use Rattle.cosem.specs.declared.Wanted.the-variants.{Read, ReadSelected, Invoke
 use Rattle.cosem.specs.declared.Asked.{Asked}
 use Rattle.cosem.specs.declared.Reading.{Reading}
 use Rattle.cosem.specs.declared.Reading.the-variants.{Asks, Malformed}
-use Rattle.cosem.specs.Tags.{tagIn, isRelease, releaseResponse}
+use Rattle.cosem.specs.declared.Exception.the-variants.{ServiceNotAllowed, ServiceUnknown}
+use Rattle.cosem.specs.Tags.{tagIn, isRelease, releaseResponse, exceptionBytes}
 use Rattle.cosem.specs.Requests.{readGet, readAction, nameIn, requested}
 use Rattle.acse.specs.declared.Aarq.the-variants.{Plain, Ciphered, Departs}
 use Rattle.acse.specs.declared.Aarq.{Aarq as ReadAarq}
@@ -43,7 +45,7 @@ use Rattle.envelope.specs.Opening.{Opened, fails, opens, opened}
 use Rattle.envelope.specs.Challenge.{rightProof, proofValue}
 use Rattle.protocol.specs.declared.Secrets.{Secrets}
 use Rattle.protocol.specs.Clients.{peer, withPeer, linked, associates, withCounters, agreedIn, keyIn, clientChallenge, meterChallenge, selectiveIn, lentKeys, dedicatedKeys, permitted, bitAgreed, isUnknown}
-use Rattle.protocol.specs.Rulings.{none as noTest, frame, linkUpWithInformation, p5HoldsV, linkDownWhileDown, dataWhileDown, unknownTag, tagNotPermitted, bitNotAgreed, aarqNotAccepted, envelopeUnopened, outsideWindow, malformedApdu, notTheChallenge, wrongProof, nothing, ua, reject, apdu, Ruling, says, asks, refuses, decision}
+use Rattle.protocol.specs.Rulings.{none as noTest, frame, linkUpWithInformation, p5HoldsV, linkDownWhileDown, dataWhileDown, unknownTag, tagNotPermitted, bitNotAgreed, envelopeUnopened, outsideWindow, notTheChallenge, wrongProof, nothing, ua, dm, reject, apdu, Ruling, says, asks, refusedAarq, refusedMalformed, decision}
 
 -- Links.
 
@@ -55,14 +57,14 @@ heldByP5 Han l = false
 
 unfoldable pub linkUp : Line → Client → Head → Bool → Ruling
 linkUp l c h information =
-    cond information (refuses linkUpWithInformation c h l)
-    (cond (heldByP5 c l) (refuses p5HoldsV c h l)
+    cond information (says linkUpWithInformation (dm h) l)
+    (cond (heldByP5 c l) (says p5HoldsV (dm h) l)
     (says noTest (ua h) (withPeer c (linked true (peer c l)) l)))
 
 -- "53: if up, UA, and this client's link and association end; else DM"
 unfoldable pub linkDown : Line → Client → Head → Ruling
 linkDown l c h =
-    cond (peer c l .up) (says noTest (ua h) (withPeer c (linked false (peer c l)) l)) (refuses linkDownWhileDown c h l)
+    cond (peer c l .up) (says noTest (ua h) (withPeer c (linked false (peer c l)) l)) (says linkDownWhileDown (dm h) l)
 
 -- Associations.
 
@@ -84,10 +86,10 @@ acceptedCiphered l a h client key proposed counter =
 -- by H's opened initiate request
 abbrev pub initiated : Line → Secrets → Head → (client text : List ℕ) → (counter : ℕ) → InitiateRequest → Ruling
 initiated l a h client text counter (Accepted k s) = acceptedCiphered l a h client (take 16 (drop k text)) (take 3 (drop s text)) counter
-initiated l a h client text counter RequestDeparts = refuses aarqNotAccepted Han h l
+initiated l a h client text counter RequestDeparts = refusedAarq Han h l
 
 abbrev pub enclosed : Line → Secrets → Head → (client : List ℕ) → Opened → Ruling
-enclosed l a h client fails = refuses aarqNotAccepted Han h l
+enclosed l a h client fails = refusedAarq Han h l
 enclosed l a h client (opens counter text) = initiated l a h client text counter (readRequest text)
 
 -- by the client's AARQ, which is plain from V alone and ciphered from H alone
@@ -95,12 +97,12 @@ abbrev pub associating : Line → Secrets → Client → Head → List ℕ → R
 associating l a c h s (Plain p) = acceptedPlain l h (take 3 (drop p s))
 associating l a c h s (Ciphered d e) =
     enclosed l a h (take 8 (drop d s)) (opened (lentKeys a) (l .han .peer .title) 0x21 (drop e s))
-associating l a c h s Departs = refuses aarqNotAccepted c h l
+associating l a c h s Departs = refusedAarq c h l
 
 -- "RLRQ is 62 03 80 01 00, answered 63 03 80 01 00, plain, and the state is none"
 unfoldable pub released : Line → Client → Head → List ℕ → Ruling
 released l c h s =
-    cond (isRelease s) (says noTest (apdu h releaseResponse) (associates c none l)) (refuses malformedApdu c h l)
+    cond (isRelease s) (says noTest (apdu h releaseResponse) (associates c none l)) (refusedMalformed h l)
 
 -- Requests.
 
@@ -110,7 +112,7 @@ wrap ak h tag = record { destination = h .source; source = h .destination; tag =
 
 -- a plain request
 abbrev pub asked : Line → Secrets → Client → Head → List ℕ → Reading → Ruling
-asked l a c h s Malformed = refuses malformedApdu c h l
+asked l a c h s Malformed = refusedMalformed h l
 asked l a c h s (Asks q) = asks (requested c (selectiveIn c l) s q) (wrap (a .ak) h 0xC0) l
 
 -- the line after an envelope's counter has become the last accepted, and after the meter's own has gone on besides
@@ -122,7 +124,7 @@ advanced l = withCounters (taken (l .han .counters) .counters) l
 
 -- an opened request of H: its answer will take the meter's next counter, granted or denied
 abbrev pub askedInside : Line → Secrets → Head → (tag counter : ℕ) → List ℕ → Reading → Ruling
-askedInside l a h tag counter text Malformed = refuses malformedApdu Han h (accepted counter l)
+askedInside l a h tag counter text Malformed = refusedMalformed h (accepted counter l)
 askedInside l a h tag counter text (Asks q) =
     asks (requested Han (selectiveIn Han l) text q) (wrap (a .ak) h tag) (advanced (accepted counter l))
 
@@ -179,12 +181,12 @@ provesItself l a counter text q =
 
 unfoldable pub challenged : Line → Secrets → Head → (counter : ℕ) → List ℕ → Asked → Ruling
 challenged l a h counter text q =
-    cond (not (isChallenge text q)) (refuses notTheChallenge Han h (accepted counter l))
+    cond (not (isChallenge text q)) (says notTheChallenge (apdu h (exceptionBytes ServiceNotAllowed)) (accepted counter l))
     (cond (provesItself l a counter text q) (proved l a h (q .invoke) counter)
     (disproved l a h (q .invoke) counter))
 
 abbrev pub answeredChallenge : Line → Secrets → Head → (counter : ℕ) → List ℕ → Reading → Ruling
-answeredChallenge l a h counter text Malformed = refuses malformedApdu Han h (accepted counter l)
+answeredChallenge l a h counter text Malformed = refusedMalformed h (accepted counter l)
 answeredChallenge l a h counter text (Asks q) = challenged l a h counter text q
 
 -- Envelopes of H.
@@ -215,25 +217,40 @@ byTag l a c h s GetRequest = asked l a c h s (readGet s)
 byTag l a c h s GloActionRequest = challengeEnclosed l a h s
 byTag l a c h s DedGetRequest = requestEnclosed l a h 0xD0 s
 byTag l a c h s DedActionRequest = requestEnclosed l a h 0xD3 s
--- never reached: `conversed` refuses them
-byTag l a c h s SetRequest = refuses tagNotPermitted c h l
-byTag l a c h s ActionRequest = refuses tagNotPermitted c h l
-byTag l a c h s DedSetRequest = refuses tagNotPermitted c h l
-byTag l a c h s Unknown = refuses unknownTag c h l
+-- never reached, as no state permits these tags; whatever stood here, every APDU would be ruled the same (`Unreached`, below)
+byTag l a c h s SetRequest = says tagNotPermitted (apdu h (exceptionBytes ServiceNotAllowed)) l
+byTag l a c h s ActionRequest = says tagNotPermitted (apdu h (exceptionBytes ServiceNotAllowed)) l
+byTag l a c h s DedSetRequest = says tagNotPermitted (apdu h (exceptionBytes ServiceNotAllowed)) l
+byTag l a c h s Unknown = says unknownTag (apdu h (exceptionBytes ServiceUnknown)) l
 
--- "Tests in order: a tag other than .. D8 02 02; a tag not permitted here, or GET or ACTION without its agreed bit, D8 01 01"
+-- "Tests in order: a tag other than .. D8 02 02; a tag not permitted here, or GET or ACTION without its agreed bit, D8 01 01"; then
+-- what an APDU comes to whose tag passes them
+abbrev pub tested : Line → Client → Head → Tag → (passed : Ruling) → Ruling
+tested l c h t passed =
+    cond (isUnknown t) (says unknownTag (apdu h (exceptionBytes ServiceUnknown)) l)
+    (cond (not (permitted c (peer c l .association) t)) (says tagNotPermitted (apdu h (exceptionBytes ServiceNotAllowed)) l)
+    (cond (not (bitAgreed (agreedIn (peer c l .association)) t)) (says bitNotAgreed (apdu h (exceptionBytes ServiceNotAllowed)) l)
+    passed))
+
 unfoldable pub conversed : Line → Secrets → Client → Head → List ℕ → Tag → Ruling
-conversed l a c h s t =
-    cond (isUnknown t) (refuses unknownTag c h l)
-    (cond (not (permitted c (peer c l .association) t)) (refuses tagNotPermitted c h l)
-    (cond (not (bitAgreed (agreedIn (peer c l .association)) t)) (refuses bitNotAgreed c h l)
-    (byTag l a c h s t)))
+conversed l a c h s t = tested l c h t (byTag l a c h s t)
+
+-- the tags that no client may send in any state
+pub data NeverPermitted : Tag → Type 0 where
+  set : NeverPermitted SetRequest
+  plainAction : NeverPermitted ActionRequest
+  enclosedSet : NeverPermitted DedSetRequest
+  unknown : NeverPermitted Unknown
+
+-- what `byTag` says of these changes nothing. Proved in proofs/Ruled.
+abbrev pub Unreached : Type 0
+Unreached = (t : Tag) → NeverPermitted t → (l : Line) (c : Client) (h : Head) (x y : Ruling) → tested l c h t x ≡ tested l c h t y
 
 -- By the frame.
 
 -- "13 while down: DM"
 unfoldable pub carried : Line → Secrets → Client → Head → List ℕ → Ruling
-carried l a c h s = cond (peer c l .up) (conversed l a c h s (tagIn s)) (refuses dataWhileDown c h l)
+carried l a c h s = cond (peer c l .up) (conversed l a c h s (tagIn s)) (says dataWhileDown (dm h) l)
 
 abbrev pub heard : Line → Secrets → (received : List ℕ) → Frame → Ruling
 heard l a f (Unanswered t) = says (frame t) nothing l

@@ -1,10 +1,8 @@
 -- What a frame on a sound meter comes to: the test of document 01 that it fails first, or none; what goes out; and the line
--- afterwards. The number of a refusal and what goes out for it follow from the test, but for a wrong proof, whose code is
--- sealed. Refusals 1 to 3 are tested before, and a request that the body denies is refused by the model.
-use mathlib.Core.Bool.{cond}
+-- afterwards. The number of a refusal follows from the test; what goes out stands beside the test in specs/Decide. Refusals 1 to 3
+-- are tested before, and a request that the body denies is refused by the model.
 use mathlib.Core.List.{List, []}
 use Prim.Native.Nat.{ℕ}
-use lib.Dec.{ltb}
 use Rattle.model.specs.declared.Client.{Client}
 use Rattle.model.specs.State.{Line}
 use Rattle.model.specs.Objects.{Request}
@@ -13,7 +11,7 @@ use Rattle.hdlc.specs.declared.Head.{Head}
 use Rattle.hdlc.specs.declared.FrameTest.{FrameTest}
 use Rattle.hdlc.specs.Tests.{numberOf}
 use Rattle.cosem.specs.Tags.{exceptionBytes}
-use Rattle.cosem.specs.declared.Exception.the-variants.{ServiceNotAllowed, ServiceUnknown}
+use Rattle.cosem.specs.declared.Exception.the-variants.{ServiceUnknown}
 use Rattle.acse.specs.Aare.{rejectedAare}
 use Rattle.envelope.specs.Opening.{openingRefusal, admissionRefusal}
 use Rattle.envelope.specs.declared.Opening.the-variants.{Fails}
@@ -61,34 +59,18 @@ bytesOf (dm h) = dmFrame h
 bytesOf (reject h t) = frmrFrame h t
 bytesOf (apdu h a) = apduFrame h a
 
--- what goes out where the test fails, to the client that sent a frame with this head
-abbrev pub replyFor : Test → Client → Head → Reply
--- no refusal
-replyFor none c h = nothing
-replyFor (frame t) c h = cond (ltb (numberOf t) 8) nothing (reject h t)
-replyFor linkUpWithInformation c h = dm h
-replyFor p5HoldsV c h = dm h
-replyFor linkDownWhileDown c h = dm h
-replyFor dataWhileDown c h = dm h
-replyFor unknownTag c h = apdu h (exceptionBytes ServiceUnknown)
-replyFor tagNotPermitted c h = apdu h (exceptionBytes ServiceNotAllowed)
-replyFor bitNotAgreed c h = apdu h (exceptionBytes ServiceNotAllowed)
-replyFor envelopeUnopened c h = nothing
-replyFor outsideWindow c h = nothing
-replyFor aarqNotAccepted c h = apdu h (rejectedAare c)
-replyFor malformedApdu c h = apdu h (exceptionBytes ServiceUnknown)
-replyFor notTheChallenge c h = apdu h (exceptionBytes ServiceNotAllowed)
--- its code goes out sealed: `disproved`
-replyFor wrongProof c h = nothing
-
 -- a frame that the line answers, or one that asks the body, with the line after it
 pub data Ruling : Type 0 where
   says : Test → Reply → Line → Ruling
   asks : Request → Wrap → Line → Ruling
 
--- refused by a test
-abbrev pub refuses : Test → Client → Head → Line → Ruling
-refuses t c h l = says t (replyFor t c h) l
+-- an AARQ not accepted, by "any departure": the rejection, plain
+abbrev pub refusedAarq : Client → Head → Line → Ruling
+refusedAarq c h l = says aarqNotAccepted (apdu h (rejectedAare c)) l
+
+-- "a malformed APDU other than an AARQ, D8 02 02"
+abbrev pub refusedMalformed : Head → Line → Ruling
+refusedMalformed h l = says malformedApdu (apdu h (exceptionBytes ServiceUnknown)) l
 
 abbrev pub decision : Ruling → Decision
 decision (says t r l) = answer (record { refusal = refusalOf t; sent = bytesOf r; line = l })
