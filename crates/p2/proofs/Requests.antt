@@ -14,7 +14,7 @@ use Rattle.cosem.specs.declared.Tag.the-variants.{Aarq, Rlrq, GetRequest, SetRe
 use Rattle.cosem.proofs.Tag.{the-type as tag-type}
 use Rattle.protocol.specs.declared.Secrets.{Secrets}
 use Rattle.protocol.specs.Decide.{byTag, requestEnclosed}
-use Rattle.p2.specs.Promise.{requestByte}
+use Rattle.p2.specs.Inner.{requestByte}
 
 -- the numbers that the arm has of its tags
 abbrev pub Requests : Tag → Type 0

@@ -33,7 +33,7 @@ ghost use Rattle.protocol.specs.declared.Secrets.{Secrets as Lender};
 ghost use Rattle.protocol.specs.Clients.{associates, selectiveIn};
 ghost use Rattle.protocol.specs.Rulings.{asks, nothing, outsideWindow, says};
 ghost use Rattle.protocol.specs.Decide.{accepted, advanced, asked, askedInside, readInside, requestEnclosed, wrap};
-ghost use Rattle.p2.specs.Promise.{Follows, FollowsUnder, Tells};
+ghost use Rattle.p2.specs.Inner.{Follows, FollowsUnder, Tells};
 
 // A plain request. No key has a part in it.
 pub fn ask_plain(meter: Meter, client: Client, head: Head, apdu: &[u8], out: &mut [u8]) -> Received

@@ -22,7 +22,7 @@ ghost use Rattle.line.specs.View.{lineOf};
 ghost use Rattle.protocol.specs.Clients.{lentKeys, peer};
 ghost use Rattle.protocol.specs.Rulings.{refusedAarq};
 ghost use Rattle.protocol.specs.Decide.{acceptedCiphered, acceptedPlain, associating, enclosed, initiated};
-ghost use Rattle.p2.specs.Promise.{Tells, TellsWith};
+ghost use Rattle.p2.specs.Inner.{Tells, TellsWith};
 
 // An AARQ.
 pub fn associate(

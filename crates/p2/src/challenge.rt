@@ -26,7 +26,7 @@ ghost use Rattle.envelope.specs.Challenge.{rightProof};
 ghost use Rattle.line.specs.View.{lineOf};
 ghost use Rattle.protocol.specs.Clients.{meterChallenge};
 ghost use Rattle.protocol.specs.Decide.{answeredChallenge, challenged, challengeEnclosed, disproved, isChallenge, onFirstMethod, proofIn, proved};
-ghost use Rattle.p2.specs.Promise.{Tells, TellsUnder};
+ghost use Rattle.p2.specs.Inner.{Tells, TellsUnder};
 
 // An envelope with the tag of the challenge's answer.
 pub fn hear_challenge(

@@ -25,7 +25,7 @@ ghost use Rattle.cosem.specs.Tags.{tagIn};
 ghost use Rattle.line.specs.View.{lineOf};
 ghost use Rattle.meter.specs.View.{view};
 ghost use Rattle.protocol.specs.Decide.{byTag, carried, conversed, released};
-ghost use Rattle.p2.specs.Promise.{Follows, requestByte, Tells};
+ghost use Rattle.p2.specs.Inner.{Follows, requestByte, Tells};
 
 // An APDU.
 pub fn carry(

@@ -9,7 +9,7 @@ ghost use mathlib.Core.Path.{_≡_};
 ghost use Prim.Native.Nat.{_≤_};
 ghost use lib.ListN.{length};
 ghost use Rattle.model.specs.Limits.{longestSent, replyRoom};
-ghost use Rattle.p2.specs.Promise.{Excepts, meterWith, received, told};
+ghost use Rattle.p2.specs.Inner.{Excepts, meterWith, received, told};
 
 // Nothing goes out, and the line is as it was.
 pub fn kept(refusal: u8, line: LineState) -> Told

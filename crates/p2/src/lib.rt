@@ -23,7 +23,8 @@ ghost use Rattle.hdlc.specs.Reading.{readFrame};
 ghost use Rattle.line.specs.View.{lineOf};
 ghost use Rattle.meter.specs.View.{view};
 ghost use Rattle.protocol.specs.Decide.{heard};
-ghost use Rattle.p2.specs.Promise.{Answered, Follows, lent, received, secretsIn};
+ghost use Rattle.p2.specs.Promise.{Answered, lent};
+ghost use Rattle.p2.specs.Inner.{Follows, received, secretsIn};
 
 // The reply room that a call asks for.
 const REPLY_ROOM: usize = 779;

@@ -11,7 +11,7 @@ ghost use Rattle.model.specs.Limits.{longestSent, replyRoom};
 ghost use Rattle.line.specs.View.{lineOf};
 ghost use Rattle.protocol.specs.Rulings.{Test, dm, frame, refusalOf, reject as frmr, says};
 ghost use Rattle.protocol.specs.Decide.{linkDown, linkUp};
-ghost use Rattle.p2.specs.Promise.{Tells};
+ghost use Rattle.p2.specs.Inner.{Tells};
 
 // FRMR.
 pub fn reject(line: LineState, head: Head, test: FrameTest, out: &mut [u8]) -> Told

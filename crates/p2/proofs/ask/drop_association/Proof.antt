@@ -7,7 +7,7 @@ use Rattle.protocol.specs.Clients.{withAssociation, peer}
 use Rattle.model.specs.declared.Client.the-variants.{Han}
 use Rattle.model.specs.State.{none as noAssociation}
 use borrow.Author.Needs.{needs}
-use Rattle.p2.specs.Promise.{meterWith}
+use Rattle.p2.specs.Inner.{meterWith}
 use Rattle.p2.proofs.ask.drop_association.Statement.{statement}
 use Rattle.p2.proofs.ask.drop_association.Tie as tie
 

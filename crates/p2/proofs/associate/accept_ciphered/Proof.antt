@@ -9,7 +9,7 @@ use Rattle.protocol.specs.Clients.{associates}
 use Rattle.model.specs.State.{pending}
 use Rattle.model.specs.declared.Client.the-variants.{Han}
 use borrow.Author.Needs.{needs}
-use Rattle.p2.specs.Promise.{meterWith}
+use Rattle.p2.specs.Inner.{meterWith}
 use Rattle.p2.proofs.associate.accept_ciphered.Statement.{statement}
 use Rattle.p2.proofs.associate.accept_ciphered.Tie as tie
 

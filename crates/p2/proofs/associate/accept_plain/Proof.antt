@@ -8,7 +8,7 @@ use Rattle.model.specs.State.{associated}
 use Rattle.model.specs.declared.Client.the-variants.{Verification}
 use mathlib.Core.List.{[]}
 use borrow.Author.Needs.{needs}
-use Rattle.p2.specs.Promise.{meterWith}
+use Rattle.p2.specs.Inner.{meterWith}
 use Rattle.p2.proofs.associate.accept_plain.Statement.{statement}
 use Rattle.p2.proofs.associate.accept_plain.Tie as tie
 

@@ -4,7 +4,7 @@ use Rattle.acse.specs.Aare.{rejectedAare}
 use Rattle.protocol.specs.Rulings.{aarqNotAccepted, apdu}
 use Rattle.p2.proofs.Endings.{says-kept}
 use borrow.Author.Needs.{needs}
-use Rattle.p2.specs.Promise.{meterWith}
+use Rattle.p2.specs.Inner.{meterWith}
 use Rattle.p2.proofs.associate.reject_aarq.Statement.{statement}
 use Rattle.p2.proofs.associate.reject_aarq.Tie as tie
 

@@ -8,7 +8,7 @@ use Rattle.protocol.specs.Rulings.{wrongProof}
 use Rattle.protocol.specs.Decide.{disproved}
 use Rattle.p2.proofs.Endings.{counted, ends-one, says-line}
 use borrow.Author.Needs.{needs}
-use Rattle.p2.specs.Promise.{meterWith}
+use Rattle.p2.specs.Inner.{meterWith}
 use Rattle.p2.proofs.challenge.disprove.Statement.{statement}
 use Rattle.p2.proofs.challenge.disprove.Tie as tie
 

@@ -5,7 +5,7 @@ use Rattle.protocol.specs.Decide.{challengeEnclosed}
 use Rattle.p2.proofs.Endings.{follows, nothing-sent, says-kept}
 use Rattle.p2.proofs.Envelopes.{admits-unopened, admits-outside, admits-inside, admitted-size}
 use borrow.Author.Needs.{needs}
-use Rattle.p2.specs.Promise.{meterWith}
+use Rattle.p2.specs.Inner.{meterWith}
 use Rattle.p2.proofs.challenge.hear_challenge.Statement.{statement}
 use Rattle.p2.proofs.challenge.hear_challenge.Tie as tie
 

@@ -8,7 +8,7 @@ use Rattle.protocol.specs.Clients.{associates, agreedIn, keyIn}
 use Rattle.model.specs.State.{associated}
 use Rattle.model.specs.declared.Client.the-variants.{Han}
 use borrow.Author.Needs.{needs}
-use Rattle.p2.specs.Promise.{meterWith}
+use Rattle.p2.specs.Inner.{meterWith}
 use Rattle.p2.proofs.challenge.prove.Statement.{statement}
 use Rattle.p2.proofs.challenge.prove.Tie as tie
 

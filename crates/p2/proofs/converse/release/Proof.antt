@@ -9,7 +9,7 @@ use Rattle.line.specs.View.{lineOf}
 use Rattle.protocol.specs.Clients.{withAssociation, peer}
 use Rattle.model.specs.State.{none as noAssociation}
 use borrow.Author.Needs.{needs}
-use Rattle.p2.specs.Promise.{meterWith}
+use Rattle.p2.specs.Inner.{meterWith}
 use Rattle.p2.proofs.converse.release.Statement.{statement}
 use Rattle.p2.proofs.converse.release.Tie as tie
 

@@ -7,7 +7,7 @@ use Rattle.protocol.specs.Rulings.{apdu}
 use Rattle.protocol.specs.Outcomes.{keeping}
 use Rattle.p2.proofs.Endings.{same-wipes, says-line}
 use borrow.Author.Needs.{needs}
-use Rattle.p2.specs.Promise.{meterWith}
+use Rattle.p2.specs.Inner.{meterWith}
 use Rattle.p2.proofs.ending.except.Statement.{statement}
 use Rattle.p2.proofs.ending.except.Tie as tie
 

@@ -10,7 +10,7 @@ use Rattle.line.specs.View.{lineOf}
 use Rattle.protocol.specs.Clients.{linked, peer}
 use mathlib.Core.Bool.{false}
 use borrow.Author.Needs.{needs}
-use Rattle.p2.specs.Promise.{meterWith}
+use Rattle.p2.specs.Inner.{meterWith}
 use Rattle.p2.proofs.links.link_down.Statement.{statement}
 use Rattle.p2.proofs.links.link_down.Tie as tie
 
