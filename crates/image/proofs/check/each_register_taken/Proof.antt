@@ -30,13 +30,19 @@ flag-taken-requires : tie.Need-flag-taken-requires Inv-loop μ-loop
 flag-taken-requires c κs = let z = sizes in omega (arith, testing-room (c .before .loop .inv) (c .loop-test .taken))
 
 returns : tie.Need-returns Inv-loop μ-loop
-returns c = testing-fails (c .before .before .before .loop .inv) (c .before .before .loop-test .taken) (register-taken (drop (c .before .before .before .loop .k) (c .before .before .before .before .before .args .s .now)) ∙ ap (flag .taken) (drop-drop 6 (c .before .before .before .loop .k) (c .before .before .before .before .before .args .s .now)) ∙ sym (c .before .flag-taken .ensures) ∙ not-true _ (c .if1 .taken))
+returns c =
+    let at-loop = c .before .before .before in
+    let start = at-loop .before .before in
+    testing-fails (at-loop .loop .inv) (c .before .before .loop-test .taken) (register-taken (drop (at-loop .loop .k) (start .args .s .now)) ∙ ap (flag .taken) (drop-drop 6 (at-loop .loop .k) (start .args .s .now)) ∙ sym (c .before .flag-taken .ensures) ∙ not-true _ (c .if1 .taken))
 
 add-k : tie.Need-add-k Inv-loop μ-loop
 add-k c = let z = sizes in omega (arith, testing-room (c .before .before .before .loop .inv) (c .before .before .loop-test .taken))
 
 loop-again : tie.Need-loop-again Inv-loop μ-loop
-loop-again c = testing-more (c .before .before .before .loop .inv) 13 (sizes .register-size) (c .before .before .loop-test .taken) (register-taken (drop (c .before .before .before .loop .k) (c .before .before .before .before .before .args .s .now)) ∙ ap (flag .taken) (drop-drop 6 (c .before .before .before .loop .k) (c .before .before .before .before .before .args .s .now)) ∙ sym (c .before .flag-taken .ensures) ∙ not-false _ (c .if1 .left))
+loop-again c =
+    let at-loop = c .before .before .before in
+    let start = at-loop .before .before in
+    testing-more (at-loop .loop .inv) 13 (sizes .register-size) (c .before .before .loop-test .taken) (register-taken (drop (at-loop .loop .k) (start .args .s .now)) ∙ ap (flag .taken) (drop-drop 6 (at-loop .loop .k) (start .args .s .now)) ∙ sym (c .before .flag-taken .ensures) ∙ not-false _ (c .if1 .left))
 
 returns-2 : tie.Need-returns-2 Inv-loop μ-loop
 returns-2 c = testing-all (c .before .loop .inv) (c .loop-test .left)
