@@ -11,7 +11,11 @@ returns : tie.Need-returns
 returns c = let h = c .if1 .taken in not-written _ _ (λ e. h (e ∙ sizes .image-size))
 
 returns-2 : tie.Need-returns-2
-returns-2 c = let h = c .before .before .before .before .before .before .before .before .if1 .left in image-written _ (h ∙ sym (sizes .image-size)) (c .before .before .before .before .before .before .put .ensures) (c .before .before .put-meter .ensures)
+returns-2 c =
+    let at-meter = c .before .before in
+    let at-version = at-meter .before .before .before .before in
+    let at-if1 = at-version .before .before in
+    image-written _ (at-if1 .if1 .left ∙ sym (sizes .image-size)) (at-version .put .ensures) (at-meter .put-meter .ensures)
 
 pub write-image-spec : {M : Type 1} → statement M
 write-image-spec = tie.close (tie.spec returns (λ c κs. let z = sizes in omega arith) (λ c κs. let z = sizes in omega arith) (λ c. search needs) returns-2)

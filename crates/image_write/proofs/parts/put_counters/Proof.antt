@@ -9,7 +9,10 @@ use Rattle.image_write.proofs.parts.put_counters.Tie as tie
 
 returns : tie.Need-returns
 unfolding countersPart
-returns c = put-fields _ _ (put-both (c .before .before .before .before .before .before .put-four .ensures) (c .before .before .put-four2 .ensures))
+returns c =
+    let at-sent = c .before .before in
+    let at-accepted = at-sent .before .before .before .before in
+    put-fields _ _ (put-both (at-accepted .put-four .ensures) (at-sent .put-four2 .ensures))
 
 pub put-counters-spec : {M : Type 1} → statement M
 put-counters-spec = tie.close (tie.spec (λ c κs. let z = sizes in omega arith) (λ c κs. let z = sizes in omega arith) (λ c. search needs) returns)

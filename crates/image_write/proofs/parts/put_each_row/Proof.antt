@@ -22,7 +22,10 @@ put-row-requires : tie.Need-put-row-requires Inv-loop μ-loop
 put-row-requires c κs = putting-room (c .before .before .before .loop .inv .1) (c .before .before .before .loop .inv .0) (c .before .before .loop-test .taken)
 
 loop-again : tie.Need-loop-again Inv-loop μ-loop
-loop-again c = (c .before .before .before .before .before .before .loop .inv .0, putting-more blankRow (c .before .before .before .before .before .before .loop .inv .1) (c .before .before .before .before .before .loop-test .taken) (c .before .before .put-row .ensures))
+loop-again c =
+    let at-loop-test = c .before .before .before .before .before in
+    let at-loop = at-loop-test .before in
+    (at-loop .loop .inv .0, putting-more blankRow (at-loop .loop .inv .1) (at-loop-test .loop-test .taken) (c .before .before .put-row .ensures))
 
 returns : tie.Need-returns Inv-loop μ-loop
 returns c = putting-all (c .before .loop .inv .1) (c .loop-test .left)

@@ -9,7 +9,12 @@ use Rattle.image_write.proofs.parts.put_line.Tie as tie
 
 returns : tie.Need-returns
 unfolding linePart
-returns c = put-fields _ _ (put-both (put-block (c .before .before .before .before .before .before .before .before .before .before .before .before .before .before .before .before .put-8 .ensures)) (put-both (c .before .before .before .before .before .before .before .before .before .before .before .put-party .ensures) (put-both (c .before .before .before .before .before .before .put-cipher-party .ensures) (c .before .before .put-flag .ensures))))
+returns c =
+    let at-p5 = c .before .before in
+    let at-han = at-p5 .before .before .before .before in
+    let at-verification = at-han .before .before .before .before .before in
+    let at-title = at-verification .before .before .before .before .before in
+    put-fields _ _ (put-both (put-block (at-title .put-8 .ensures)) (put-both (at-verification .put-party .ensures) (put-both (at-han .put-cipher-party .ensures) (at-p5 .put-flag .ensures))))
 
 pub put-line-spec : {M : Type 1} → statement M
 put-line-spec = tie.close (tie.spec (λ c κs. let z = sizes in omega arith) (λ c κs. let z = sizes in omega arith) (λ c κs. let z = sizes in omega arith) (λ c κs. let z = sizes in omega arith) (λ c. search needs) returns)

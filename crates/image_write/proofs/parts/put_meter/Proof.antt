@@ -9,7 +9,10 @@ use Rattle.image_write.proofs.parts.put_meter.Tie as tie
 
 returns : tie.Need-returns
 unfolding meterPart
-returns c = put-fields _ _ (put-both (c .before .before .before .before .before .before .before .put-line .ensures) (c .before .before .put-body .ensures))
+returns c =
+    let at-body = c .before .before in
+    let at-line = at-body .before .before .before .before .before in
+    put-fields _ _ (put-both (at-line .put-line .ensures) (at-body .put-body .ensures))
 
 pub put-meter-spec : {M : Type 1} → statement M
 put-meter-spec = tie.close (tie.spec (λ c κs. let z = sizes in omega arith) (λ c κs. let z = sizes in omega arith) (λ c. search needs) returns)

@@ -9,7 +9,12 @@ use Rattle.image_write.proofs.parts.put_party.Tie as tie
 
 returns : tie.Need-returns
 unfolding partyPart
-returns c = put-fields _ _ (put-both (put-block (c .before .before .before .before .before .before .before .before .before .before .before .before .before .before .before .before .put-8 .ensures)) (put-both (c .before .before .before .before .before .before .before .before .before .before .before .before .put-flag .ensures) (put-both (c .before .before .before .before .before .before .before .before .put-phase .ensures) (put-block (c .before .before .put-3 .ensures)))))
+returns c =
+    let at-agreed = c .before .before in
+    let at-phase = at-agreed .before .before .before .before .before .before in
+    let at-up = at-phase .before .before .before .before in
+    let at-title = at-up .before .before .before .before in
+    put-fields _ _ (put-both (put-block (at-title .put-8 .ensures)) (put-both (at-up .put-flag .ensures) (put-both (at-phase .put-phase .ensures) (put-block (at-agreed .put-3 .ensures)))))
 
 pub put-party-spec : {M : Type 1} → statement M
 put-party-spec = tie.close (tie.spec (λ c κs. let z = sizes in omega arith) (λ c κs. let z = sizes in omega arith) (λ c κs. let z = sizes in omega arith) (λ c κs. let z = sizes in omega arith) (λ c. search needs) returns)
