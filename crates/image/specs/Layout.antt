@@ -1,5 +1,6 @@
--- The layout of a meter: each struct's fields in their order, arrays in full whatever a count says. docs/IMAGE.md has it as a
--- table of places.
+-- The layout of a meter: each struct's fields in their order, arrays in full whatever a count says. `Places` is to be read before
+-- it: it has the place of each field, and it is proved of this layout. A definition here has three parts: the fields of a struct as
+-- nested pairs, the struct with such fields, and, in the same order, the part that each field is written as.
 use Rattle.model.specs.declared.Name.{Name}
 use Rattle.model.specs.declared.Clock.{Clock}
 use Rattle.model.specs.declared.Register.{Register}
@@ -17,71 +18,95 @@ use Rattle.image.specs.Codec.{Codec, block, byte, number, flag, phase, _
 
 -- The line.
 
+-- title, up, phase, agreed
 unfoldable pub partyPart : Codec Party
 partyPart =
     fields (λ p. (p .title, (p .up, (p .phase, p .agreed))))
-    (λ t. record { title = t .0; up = t .1 .0; phase = t .1 .1 .0; agreed = t .1 .1 .1 })
+    (λ (title, (up, (kind, agreed))). record { title = title; up = up; phase = kind; agreed = agreed })
     (block 8 & flag & phase & block 3)
 
+-- accepted, sent
 unfoldable pub countersPart : Codec Counters
-countersPart = fields (λ c. (c .accepted, c .sent)) (λ t. record { accepted = t .0; sent = t .1 }) (number 4 & number 4)
+countersPart =
+    fields (λ c. (c .accepted, c .sent))
+    (λ (accepted, sent). record { accepted = accepted; sent = sent })
+    (number 4 & number 4)
 
+-- party, key, client, meter, counters
 unfoldable pub cipherPartyPart : Codec CipherParty
 cipherPartyPart =
     fields (λ p. (p .party, (p .key, (p .client, (p .meter, p .counters)))))
-    (λ t. record { party = t .0; key = t .1 .0; client = t .1 .1 .0; meter = t .1 .1 .1 .0; counters = t .1 .1 .1 .1 })
+    (λ (party, (key, (client, (meter, counters)))). record { party = party; key = key; client = client; meter = meter; counters = counters })
     (partyPart & block 16 & block 8 & block 8 & countersPart)
 
+-- title, verification, han, p5
 unfoldable pub linePart : Codec LineState
 linePart =
     fields (λ l. (l .title, (l .verification, (l .han, l .p5))))
-    (λ t. record { title = t .0; verification = t .1 .0; han = t .1 .1 .0; p5 = t .1 .1 .1 })
+    (λ (title, (verification, (han, p5))). record { title = title; verification = verification; han = han; p5 = p5 })
     (block 8 & partyPart & cipherPartyPart & flag)
 
 -- The body.
 
+-- bytes
 unfoldable pub namePart : Codec Name
-namePart = fields (λ n. n .bytes) (λ t. record { bytes = t }) (block 6)
+namePart = fields (λ n. n .bytes) (λ bytes. record { bytes = bytes }) (block 6)
 
+-- bytes
 unfoldable pub clockPart : Codec Clock
-clockPart = fields (λ c. c .bytes) (λ t. record { bytes = t }) (block 12)
+clockPart = fields (λ c. c .bytes) (λ bytes. record { bytes = bytes }) (block 12)
 
+-- name, readable, scaler, unit, value
 unfoldable pub registerPart : Codec Register
 registerPart =
     fields (λ r. (r .name, (r .readable, (r .scaler, (r .unit, r .value)))))
-    (λ t. record { name = t .0; readable = t .1 .0; scaler = t .1 .1 .0; unit = t .1 .1 .1 .0; value = t .1 .1 .1 .1 })
+    (λ (name, (readable, (scaler, (unit, value)))). record { name = name; readable = readable; scaler = scaler; unit = unit; value = value })
     (namePart & flag & byte & byte & number 4)
 
+-- count, items
 unfoldable pub registersPart : Codec Registers
 registersPart =
-    fields (λ r. (r .count, r .items)) (λ t. record { count = t .0; items = t .1 }) (number 8 & many 16 registerPart)
+    fields (λ r. (r .count, r .items))
+    (λ (count, items). record { count = count; items = items })
+    (number 8 & many 16 registerPart)
 
+-- count, items
 unfoldable pub columnsPart : Codec Columns
-columnsPart = fields (λ r. (r .count, r .items)) (λ t. record { count = t .0; items = t .1 }) (number 8 & many 16 namePart)
+columnsPart =
+    fields (λ r. (r .count, r .items))
+    (λ (count, items). record { count = count; items = items })
+    (number 8 & many 16 namePart)
 
+-- number, clock, count, cells
 unfoldable pub rowPart : Codec Row
 rowPart =
     fields (λ r. (r .number, (r .clock, (r .count, r .cells))))
-    (λ t. record { number = t .0; clock = t .1 .0; count = t .1 .1 .0; cells = t .1 .1 .1 })
+    (λ (recordNumber, (clock, (count, cells))). record { number = recordNumber; clock = clock; count = count; cells = cells })
     (number 2 & clockPart & number 8 & many 16 (number 4))
 
+-- count, items
 unfoldable pub rowsPart : Codec Rows
-rowsPart = fields (λ r. (r .count, r .items)) (λ t. record { count = t .0; items = t .1 }) (number 8 & many 15 rowPart)
+rowsPart =
+    fields (λ r. (r .count, r .items))
+    (λ (count, items). record { count = count; items = items })
+    (number 8 & many 15 rowPart)
 
+-- device, clock, period, number, registers, columns, rows
 unfoldable pub bodyPart : Codec BodyState
 bodyPart =
     fields (λ b. (b .device, (b .clock, (b .period, (b .number, (b .registers, (b .columns, b .rows)))))))
-    (λ t.
+    (λ (device, (clock, (period, (recordNumber, (registers, (columns, rows)))))).
     record {
-      device = t .0;
-      clock = t .1 .0;
-      period = t .1 .1 .0;
-      number = t .1 .1 .1 .0;
-      registers = t .1 .1 .1 .1 .0;
-      columns = t .1 .1 .1 .1 .1 .0;
-      rows = t .1 .1 .1 .1 .1 .1;
+      device = device;
+      clock = clock;
+      period = period;
+      number = recordNumber;
+      registers = registers;
+      columns = columns;
+      rows = rows;
     })
     (block 16 & clockPart & number 4 & number 2 & registersPart & columnsPart & rowsPart)
 
+-- line, body
 unfoldable pub meterPart : Codec Meter
-meterPart = fields (λ m. (m .line, m .body)) (λ t. record { line = t .0; body = t .1 }) (linePart & bodyPart)
+meterPart = fields (λ m. (m .line, m .body)) (λ (line, body). record { line = line; body = body }) (linePart & bodyPart)

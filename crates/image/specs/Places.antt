@@ -1,4 +1,8 @@
--- Where each field of a meter stands in its image: the table of docs/IMAGE.md. Beside each field: its part, and its place.
+-- The page to read first. Where each field of a meter stands in its image: the table of docs/IMAGE.md, proved of every byte string.
+-- Beside each field: its part, and its place. `Got part s at x`: x is what the part is read as, from place `at` of s on. The parts
+-- (`Codec`): `block n`, n bytes as they are; `byte`; `number w`, in w bytes, high byte first; `flag`, 0 or 1; `phase`, 0, 1 or 2.
+-- Byte 0, the version, and the meter that an image holds (`meterOf`) are in `Image`. The places follow from the order of the fields
+-- in `Layout`.
 use mathlib.Core.List.{List}
 use Prim.Native.Nat.{ℕ, _+_, _*_, _<_}
 use lib.ListN.{getD}
