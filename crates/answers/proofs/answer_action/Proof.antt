@@ -12,31 +12,27 @@ use borrow.Author.Needs.{needs}
 use Rattle.answers.proofs.answer_action.Statement.{statement}
 use Rattle.answers.proofs.answer_action.Tie as tie
 
-put-head-requires : tie.Need-put-head-requires
-put-head-requires c κs = omega (arith, text-room)
-
-put-requires : tie.Need-put-requires
-put-requires c κs = omega (arith, text-room)
-
-put-head-requires-2 : tie.Need-put-head-requires-2
-put-head-requires-2 c κs = omega (arith, text-room)
-
-put-requires-2 : tie.Need-put-requires-2
-put-requires-2 c κs = omega (arith, text-room)
-
 returns : tie.Need-returns
 returns c =
-    let i = c .before .before .before .before .before .before .before .before .before .before .before in
-    let a = c .before .before .before .before .before .before .before .before .before .before .before .before .before .before .args in
+    let at-end = c .before .before .before in
+    let at-head = at-end .before .before .before .before in
+    let at-granted = at-head .before .before in
+    let at-invoke-method = at-granted .before .before in
+    let start = at-invoke-method .before .before .before in
+    let a = start .args in
     let v = parameterIn (a .apdu .now) (a .argument) in
-    method-granted (requestAs (a .query) (action (a .method) v)) (bodyOf (a .body)) (foundAs (a .query .name) (a .found)) _ (a .method) v _ (rw (c .before .before .before .before .before .before .before .before .before .enum-told .given .1) at (i .invoke-method .ensures (bodyOf (a .body)))) refl (then (c .before .before .before .before .before .before .before .put-head .ensures) (c .before .before .before .put .ensures)) (c .after-method .ensures (a .query .name) _)
+    method-granted (requestAs (a .query) (action (a .method) v)) (bodyOf (a .body)) (foundAs (a .query .name) (a .found)) _ (a .method) v _ (rw (at-granted .enum-told .given .1) at (at-invoke-method .invoke-method .ensures (bodyOf (a .body)))) refl (then (at-head .put-head .ensures) (at-end .put .ensures)) (c .after-method .ensures (a .query .name) _)
 
 returns-2 : tie.Need-returns-2
 returns-2 c =
-    let i = c .before .before .before .before .before .before .before .before .before .before .before in
-    let a = c .before .before .before .before .before .before .before .before .before .before .before .before .before .before .args in
+    let at-end = c .before .before in
+    let at-head = at-end .before .before .before .before in
+    let at-denied = at-head .before .before .before in
+    let at-invoke-method = at-denied .before .before in
+    let start = at-invoke-method .before .before .before in
+    let a = start .args in
     let v = parameterIn (a .apdu .now) (a .argument) in
-    method-denied (requestAs (a .query) (action (a .method) v)) (bodyOf (a .body)) (foundAs (a .query .name) (a .found)) _ (a .method) v _ (rw (c .before .before .before .before .before .before .before .before .before .o .given .1) at (i .invoke-method .ensures (bodyOf (a .body)))) refl (then (c .before .before .before .before .before .before .put-head2 .ensures) (c .before .before .put2 .ensures)) refl
+    method-denied (requestAs (a .query) (action (a .method) v)) (bodyOf (a .body)) (foundAs (a .query .name) (a .found)) _ (a .method) v _ (rw (at-denied .o .given .1) at (at-invoke-method .invoke-method .ensures (bodyOf (a .body)))) refl (then (at-head .put-head2 .ensures) (at-end .put2 .ensures)) refl
 
 pub answer-action-spec : {M : Type 1} → statement M
-answer-action-spec = tie.close (tie.spec (λ c κs. search needs) (λ c. search needs) put-head-requires put-requires (λ c κs. search needs) (λ c. search needs) put-head-requires-2 put-requires-2 (λ c. search needs) returns (λ c. search needs) returns-2)
+answer-action-spec = tie.close (tie.spec (λ c κs. search needs) (λ c. search needs) (λ c κs. omega (arith, text-room)) (λ c κs. omega (arith, text-room)) (λ c κs. search needs) (λ c. search needs) (λ c κs. omega (arith, text-room)) (λ c κs. omega (arith, text-room)) (λ c. search needs) returns (λ c. search needs) returns-2)
