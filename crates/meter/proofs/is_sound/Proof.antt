@@ -10,7 +10,10 @@ returns : tie.Need-returns
 returns c = rw (sound-is (c .before .before .before .args .meter), sym (c .before .is-body-sound .ensures) ∙ not-true _ (c .if1 .taken))
 
 returns-2 : tie.Need-returns-2
-returns-2 c = rw (sound-is (c .before .before .before .before .before .args .meter), sym (c .before .before .before .is-body-sound .ensures) ∙ not-false _ (c .before .before .if1 .left)) (c .is-line-sound .ensures)
+returns-2 c =
+    let at-if1 = c .before .before in
+    let start = at-if1 .before .before .before in
+    rw (sound-is (start .args .meter), sym (at-if1 .before .is-body-sound .ensures) ∙ not-false _ (at-if1 .if1 .left)) (c .is-line-sound .ensures)
 
 pub is-sound-spec : {M : Type 1} → statement M
 is-sound-spec = tie.close (tie.spec (λ c κs. search needs) returns (λ c κs. search needs) returns-2)

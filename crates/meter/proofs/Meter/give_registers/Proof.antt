@@ -12,11 +12,18 @@ returns c = rw (c .refused .ensures) (unsound _ _ refl (sym (c .before .before .
 
 returns-2 : tie.Need-returns-2
 unfolding registersOf
-returns-2 c = rw (c .refused2 .ensures) (refuses _ (c .before .before .before .before .before .args .self) refl _ (sym (c .before .before .before .before .is-sound .ensures) ∙ not-false _ (c .before .before .before .if1 .left)) (λ p. registers-refused p (c .before .before .before .before .before .args .self) (record { count = c .before .before .before .before .before .args .count; items = c .before .before .before .before .before .args .registers }) (sym (c .before .before .registers-accepted .ensures) ∙ not-true _ (c .before .if2 .taken))))
+returns-2 c =
+    let at-if1 = c .before .before .before in
+    let start = at-if1 .before .before in
+    rw (c .refused2 .ensures) (refuses _ (start .args .self) refl _ (sym (at-if1 .before .is-sound .ensures) ∙ not-false _ (at-if1 .if1 .left)) (λ p. registers-refused p (start .args .self) (record { count = start .args .count; items = start .args .registers }) (sym (c .before .before .registers-accepted .ensures) ∙ not-true _ (c .before .if2 .taken))))
 
 returns-3 : tie.Need-returns-3
 unfolding registersOf
-returns-3 c = rw (c .accepted .ensures) (accepts _ (c .before .before .before .before .before .before .before .before .args .self) refl _ (sym (c .before .before .before .before .before .before .before .is-sound .ensures) ∙ not-false _ (c .before .before .before .before .before .before .if1 .left)) (λ p. registers-given p (c .before .before .before .before .before .before .before .before .args .self) (record { count = c .before .before .before .before .before .before .before .before .args .count; items = c .before .before .before .before .before .before .before .before .args .registers }) _ _ (sym (c .before .before .before .before .before .registers-accepted .ensures) ∙ not-false _ (c .before .before .before .before .if2 .left)) (c .before .before .no-columns .ensures) (c .before .no-rows .ensures)))
+returns-3 c =
+    let at-if2 = c .before .before .before .before in
+    let at-if1 = at-if2 .before .before in
+    let start = at-if1 .before .before in
+    rw (c .accepted .ensures) (accepts _ (start .args .self) refl _ (sym (at-if1 .before .is-sound .ensures) ∙ not-false _ (at-if1 .if1 .left)) (λ p. registers-given p (start .args .self) (record { count = start .args .count; items = start .args .registers }) _ _ (sym (at-if2 .before .registers-accepted .ensures) ∙ not-false _ (at-if2 .if2 .left)) (c .before .before .no-columns .ensures) (c .before .no-rows .ensures)))
 
 pub give-registers-spec : {M : Type 1} → statement M
 give-registers-spec = tie.close (tie.spec (λ c κs. search needs) (λ c κs. search needs) returns (λ c κs. search needs) (λ c κs. search needs) returns-2 (λ c κs. search needs) (λ c κs. search needs) (λ c κs. search needs) returns-3)

@@ -11,7 +11,11 @@ returns : tie.Need-returns
 returns c = rw (c .refused .ensures) (record { owned = unsound _ _ refl (sym (c .before .before .is-sound .ensures) ∙ not-true _ (c .before .if1 .taken)); wiped = λ z. absurd (omega arith) })
 
 returns-2 : tie.Need-returns-2
-returns-2 c = rw (c .accepted .ensures) (record { owned = accepts _ (c .before .before .before .before .before .before .before .args .self) refl _ (sym (c .before .before .before .before .before .before .is-sound .ensures) ∙ not-false _ (c .before .before .before .before .before .if1 .left)) (λ p. powered p (c .before .before .before .before .before .before .before .args .self) _ _ (c .before .before .before .powered-up .ensures .view) (c .before .no-rows .ensures)); wiped = λ _. c .before .before .before .powered-up .ensures .wiped })
+returns-2 c =
+    let at-powered-up = c .before .before .before in
+    let at-if1 = at-powered-up .before .before in
+    let start = at-if1 .before .before in
+    rw (c .accepted .ensures) (record { owned = accepts _ (start .args .self) refl _ (sym (at-if1 .before .is-sound .ensures) ∙ not-false _ (at-if1 .if1 .left)) (λ p. powered p (start .args .self) _ _ (at-powered-up .powered-up .ensures .view) (c .before .no-rows .ensures)); wiped = λ _. at-powered-up .powered-up .ensures .wiped })
 
 pub power-up-spec : {M : Type 1} → statement M
 power-up-spec = tie.close (tie.spec (λ c κs. search needs) (λ c κs. search needs) returns (λ c κs. search needs) (λ c κs. search needs) (λ c κs. search needs) returns-2)

@@ -15,11 +15,18 @@ columns-accepted-requires c κs = fits _ (sym (c .before .before .before .is-sou
 
 returns-2 : tie.Need-returns-2
 unfolding columnsOf
-returns-2 c = rw (c .refused2 .ensures) (refuses _ (c .before .before .before .before .before .before .before .args .self) refl _ (sym (c .before .before .before .before .before .before .is-sound .ensures) ∙ not-false _ (c .before .before .before .before .before .if1 .left)) (λ p. columns-refused p (c .before .before .before .before .before .before .before .args .self) (record { count = c .before .before .before .before .before .before .before .args .count; items = c .before .before .before .before .before .before .before .args .columns }) (sym (c .before .before .columns-accepted .ensures) ∙ not-true _ (c .before .if2 .taken))))
+returns-2 c =
+    let at-if1 = c .before .before .before .before .before in
+    let start = at-if1 .before .before in
+    rw (c .refused2 .ensures) (refuses _ (start .args .self) refl _ (sym (at-if1 .before .is-sound .ensures) ∙ not-false _ (at-if1 .if1 .left)) (λ p. columns-refused p (start .args .self) (record { count = start .args .count; items = start .args .columns }) (sym (c .before .before .columns-accepted .ensures) ∙ not-true _ (c .before .if2 .taken))))
 
 returns-3 : tie.Need-returns-3
 unfolding columnsOf
-returns-3 c = rw (c .accepted .ensures) (accepts _ (c .before .before .before .before .before .before .before .before .args .self) refl _ (sym (c .before .before .before .before .before .before .before .is-sound .ensures) ∙ not-false _ (c .before .before .before .before .before .before .if1 .left)) (λ p. columns-set p (c .before .before .before .before .before .before .before .before .args .self) (record { count = c .before .before .before .before .before .before .before .before .args .count; items = c .before .before .before .before .before .before .before .before .args .columns }) _ (sym (c .before .before .before .columns-accepted .ensures) ∙ not-false _ (c .before .before .if2 .left)) (c .before .no-rows .ensures)))
+returns-3 c =
+    let at-if2 = c .before .before in
+    let at-if1 = at-if2 .before .before .before .before in
+    let start = at-if1 .before .before in
+    rw (c .accepted .ensures) (accepts _ (start .args .self) refl _ (sym (at-if1 .before .is-sound .ensures) ∙ not-false _ (at-if1 .if1 .left)) (λ p. columns-set p (start .args .self) (record { count = start .args .count; items = start .args .columns }) _ (sym (at-if2 .before .columns-accepted .ensures) ∙ not-false _ (at-if2 .if2 .left)) (c .before .no-rows .ensures)))
 
 pub set-columns-spec : {M : Type 1} → statement M
 set-columns-spec = tie.close (tie.spec (λ c κs. search needs) (λ c κs. search needs) returns columns-accepted-requires (λ c κs. search needs) returns-2 (λ c κs. search needs) (λ c κs. search needs) returns-3)

@@ -13,10 +13,17 @@ assign-requires : tie.Need-assign-requires
 assign-requires c κs = fits _ (sym (c .before .before .before .is-sound .ensures) ∙ not-false _ (c .before .before .if1 .left)) .registers
 
 returns-2 : tie.Need-returns-2
-returns-2 c = rw (c .refused2 .ensures) (refuses _ (c .before .before .before .before .before .before .before .args .self) refl _ (sym (c .before .before .before .before .before .before .is-sound .ensures) ∙ not-false _ (c .before .before .before .before .before .if1 .left)) (λ p. value-refused p (c .before .before .before .before .before .before .before .args .self) _ (c .before .before .before .before .before .before .before .args .value) (sym (c .before .before .assign .ensures .found) ∙ not-true _ (c .before .if2 .taken))))
+returns-2 c =
+    let at-if1 = c .before .before .before .before .before in
+    let start = at-if1 .before .before in
+    rw (c .refused2 .ensures) (refuses _ (start .args .self) refl _ (sym (at-if1 .before .is-sound .ensures) ∙ not-false _ (at-if1 .if1 .left)) (λ p. value-refused p (start .args .self) _ (start .args .value) (sym (c .before .before .assign .ensures .found) ∙ not-true _ (c .before .if2 .taken))))
 
 returns-3 : tie.Need-returns-3
-returns-3 c = rw (c .accepted .ensures) (accepts _ (c .before .before .before .before .before .before .before .before .args .self) refl _ (sym (c .before .before .before .before .before .before .before .is-sound .ensures) ∙ not-false _ (c .before .before .before .before .before .before .if1 .left)) (λ p. value-set p (c .before .before .before .before .before .before .before .before .args .self) _ (c .before .before .before .before .before .before .before .before .args .value) (c .before .before .before .assign .result) (c .before .before .before .assign .ensures) (not-false _ (c .before .before .if2 .left))))
+returns-3 c =
+    let at-if2 = c .before .before in
+    let at-if1 = at-if2 .before .before .before .before in
+    let start = at-if1 .before .before in
+    rw (c .accepted .ensures) (accepts _ (start .args .self) refl _ (sym (at-if1 .before .is-sound .ensures) ∙ not-false _ (at-if1 .if1 .left)) (λ p. value-set p (start .args .self) _ (start .args .value) (at-if2 .before .assign .result) (at-if2 .before .assign .ensures) (not-false _ (at-if2 .if2 .left))))
 
 pub set-value-spec : {M : Type 1} → statement M
 set-value-spec = tie.close (tie.spec (λ c κs. search needs) (λ c κs. search needs) returns assign-requires (λ c κs. search needs) returns-2 (λ c κs. search needs) returns-3)
