@@ -1,5 +1,4 @@
-pub mod GivenLaws
-pub mod CallLaws
+pub mod FrameLaws
 pub mod RecordLaws
 pub mod RunLaws
 pub mod NumberLaws

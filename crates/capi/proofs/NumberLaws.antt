@@ -1,6 +1,6 @@
 -- Each call of the static library has the numbers that specs/Numbers lists for it.
 use mathlib.Core.Path.{_≡_, refl, _∙_, ap}
-use mathlib.Core.Bool.{Bool, true, false, cond, not, _||_, false≢true, true≢false}
+use mathlib.Core.Bool.{Bool, true, false, cond, not, _||_, false≢true}
 use mathlib.Core.List.{List, [], _∷_, _++_}
 use Prim.Native.Nat.{ℕ}
 use lib.Dec.{eqb, ltb}
@@ -17,10 +17,14 @@ use Rattle.protocol.specs.Decide.{p2}
 use Rattle.protocol.proofs.Claim.{p2-numbers-allowed}
 use Rattle.image.specs.declared.Status.{Status}
 use Rattle.image.specs.declared.Status.the-variants.{Whole, WrongLength, WrongVersion, NoImage}
-use Rattle.image.specs.Image.{meterOf, statusOf}
-use Rattle.capi.specs.Refusals.{notSound, ownRefusal, frameRefusal}
-use Rattle.capi.specs.Lending.{LentOwner, registers, value, columns, period, clock, p5, powered, LentCall, receive, own, takenArguments, fault, callOf}
-use Rattle.capi.specs.Promises.{refusalFor}
+use Rattle.image.specs.Image.{meterOf, statusOf, notSound}
+use Rattle.image.specs.Layout.{namePart, registerPart}
+use Rattle.image.specs.Lists.{wholeList}
+use Rattle.owner_calls.specs.Refusals.{wrongArgument, faultOf, sized, isFlag, faultRefusal, refusalBy}
+use Rattle.owner_calls.specs.Lending.{LentOwner, registers, value, columns, period, clock, p5, powered, fault}
+use Rattle.owner_calls.specs.Promises.{refusalFor}
+use Rattle.capi.specs.Refusals.{frameRefusal}
+use Rattle.capi.specs.Lending.{LentCall, receive, own, callOf}
 use Rattle.capi.specs.Runs.{Library, receives, owns}
 use Rattle.capi.specs.Numbers.{unknownNumbers, libraryNumbers, LibraryNumbers}
 
@@ -47,22 +51,33 @@ made-number c m n e = known c n (ap (λ (k : ℕ). listed k (numbers (callOf c))
 
 -- Owner's calls that the library refuses.
 
-fault-number : (c : LentOwner) → takenArguments c ≡ false → listed (fault c) (libraryNumbers (own c)) ≡ true
-fault-number (registers s) g = refl
-fault-number (value n v) g = refl
-fault-number (columns s) g = refl
-fault-number (period d) g = refl
-fault-number (clock t) g = refl
-fault-number (p5 h) g = refl
-fault-number powered g = absurd (true≢false g)
+-- a fault has its number or none, and with none the call is made
+by-fault : (xs : List ℕ) (b : Bool) (k : ℕ) → listed 0 xs ≡ true → listed k xs ≡ true → listed (faultOf b k) xs ≡ true
+by-fault xs true k z e = z
+by-fault xs false k z e = e
 
-own-number : (t : Status) (good y : Bool) (c : LentOwner) → takenArguments c ≡ good → listed (ownRefusal t good y (fault c)) (libraryNumbers (own c)) ≡ true
-own-number Whole true y c g = refl
-own-number Whole false true c g = fault-number c g
-own-number Whole false false c g = refl
-own-number WrongLength good y c g = refl
-own-number WrongVersion good y c g = refl
-own-number NoImage good y c g = refl
+fault-number : (c : LentOwner) → listed (fault c) (libraryNumbers (own c)) ≡ true
+fault-number (registers s) = by-fault (libraryNumbers (own (registers s))) (wholeList registerPart s) 16 refl refl
+fault-number (value n v) = by-fault (libraryNumbers (own (value n v))) (sized 6 n) 17 refl refl
+fault-number (columns s) = by-fault (libraryNumbers (own (columns s))) (wholeList namePart s) 18 refl refl
+fault-number (period d) = refl
+fault-number (clock t) = by-fault (libraryNumbers (own (clock t))) (sized 12 t) 14 refl refl
+fault-number (p5 h) = by-fault (libraryNumbers (own (p5 h))) (isFlag h) wrongArgument refl refl
+fault-number powered = refl
+
+whole-number : (y : Bool) (c : LentOwner) → listed (faultRefusal y (fault c)) (libraryNumbers (own c)) ≡ true
+whole-number y c = go (eqb (fault c) 0) y
+  where
+    go : (b y : Bool) → listed (cond b 0 (cond y (fault c) notSound)) (libraryNumbers (own c)) ≡ true
+    go true y = refl
+    go false true = fault-number c
+    go false false = refl
+
+own-number : (t : Status) (y : Bool) (c : LentOwner) → listed (refusalBy t y (fault c)) (libraryNumbers (own c)) ≡ true
+own-number Whole y c = whole-number y c
+own-number WrongLength y c = refl
+own-number WrongVersion y c = refl
+own-number NoImage y c = refl
 
 -- Frame calls that the library refuses.
 
@@ -97,5 +112,5 @@ library-numbers s e c h (receives a l o k n f) = go (eqb (frameRefusal (statusOf
 library-numbers s e c h (owns d n f) = go (eqb (refusalFor d s) 0) refl
   where
     go : (b : Bool) → eqb (refusalFor d s) 0 ≡ b → listed n (libraryNumbers (own d)) ≡ true
-    go true p = made-number (own d) (view (meterOf s)) n (f .called (eqb-true _ _ p) .promised .refusal)
-    go false p = ap (λ (k : ℕ). listed k (libraryNumbers (own d))) (f .refused (eqb-false _ _ p)) ∙ own-number (statusOf s) (takenArguments d) (sound (view (meterOf s))) d refl
+    go true p = made-number (own d) (view (meterOf s)) n (f .called (eqb-true _ _ p) .promised p2 .refusal)
+    go false p = ap (λ (k : ℕ). listed k (libraryNumbers (own d))) (f .refused (eqb-false _ _ p)) ∙ own-number (statusOf s) (sound (view (meterOf s))) d

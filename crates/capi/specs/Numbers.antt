@@ -9,8 +9,10 @@ use Rattle.model.specs.Archive.{numbers}
 use Rattle.model.specs.Demand3.{Handed}
 use Rattle.meter.specs.declared.Meter.{Meter}
 use Rattle.meter.specs.View.{view}
-use Rattle.capi.specs.Refusals.{wrongStateSize, wrongVersion, wrongArgument}
-use Rattle.capi.specs.Lending.{LentOwner, registers, value, columns, period, clock, p5, powered, LentCall, receive, own, callOf}
+use Rattle.image.specs.Image.{wrongLength, wrongVersion}
+use Rattle.owner_calls.specs.Refusals.{wrongArgument}
+use Rattle.owner_calls.specs.Lending.{LentOwner, registers, value, columns, period, clock, p5, powered}
+use Rattle.capi.specs.Lending.{LentCall, receive, own, callOf}
 use Rattle.capi.specs.Runs.{Library}
 
 -- of the arguments only a flag that is neither 0 nor 1 is unknown to 01
@@ -28,7 +30,7 @@ unknownNumbers (receive a) = []
 unknownNumbers (own c) = flagNumbers c
 
 abbrev pub libraryNumbers : LentCall → List ℕ
-libraryNumbers c = wrongStateSize ∷ wrongVersion ∷ (numbers (callOf c) ++ unknownNumbers c)
+libraryNumbers c = wrongLength ∷ wrongVersion ∷ (numbers (callOf c) ++ unknownNumbers c)
 
 -- Proved in proofs/NumberLaws.
 abbrev pub LibraryNumbers : Type 0

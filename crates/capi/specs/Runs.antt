@@ -1,22 +1,22 @@
 -- Demand 3 of the static library as it runs: the frame call and all owner's calls, each by its own `ensures`, in any list of calls on
--- a state buffer that holds a whole image at first, in which each finds the buffer as the last one left it. A call stands in the list
--- as it is lent, so that those which the library itself refuses for their arguments are among them, each with its number.
+-- a state buffer, whatever it holds at first, in which each finds the buffer as the last one left it. A call stands in the list as it
+-- is lent, so that those which are refused before a call on a meter is made are among them, each with its number.
 use mathlib.Core.Path.{_≡_}
-use mathlib.Core.Bool.{false, cond}
+use mathlib.Core.Bool.{cond}
 use mathlib.Core.List.{List, [], _∷_, _++_, map}
 use Prim.Native.Nat.{ℕ, zero, suc, _/_}
 use lib.ListN.{length, take, drop, replicate}
-use Rattle.model.specs.Calls.{Lent}
+use Rattle.model.specs.Calls.{Lent, lentRefusal}
 use Rattle.model.specs.Demand3.{Chosen, hide, Alike, SameOutcomes, Handed, seen}
-use Rattle.model.specs.Soundness.{sound}
 use Rattle.meter.specs.declared.Meter.{Meter}
 use Rattle.meter.specs.View.{view}
 use Rattle.protocol.specs.Decide.{p2}
-use Rattle.image.specs.declared.Status.the-variants.{Whole}
 use Rattle.image.specs.Image.{meterOf, statusOf}
-use Rattle.capi.specs.Refusals.{faultRefusal}
-use Rattle.capi.specs.Lending.{LentOwner, registers, value, columns, period, clock, p5, powered, LentCall, receive, own, takenArguments, fault, callOf}
-use Rattle.capi.specs.Promises.{handedBack, OwnerCalled, FrameCalled}
+use Rattle.owner_calls.specs.Lending.{LentOwner, registers, value, columns, period, clock, p5, powered}
+use Rattle.owner_calls.specs.Promises.{handedBack, refusalFor, OwnerCalled}
+use Rattle.capi.specs.Refusals.{frameRefusal}
+use Rattle.capi.specs.Lending.{LentCall, receive, own, callOf}
+use Rattle.capi.specs.Promises.{FrameCalled}
 
 -- Alike.
 
@@ -63,23 +63,31 @@ pub data LibraryRuns : (state : List ℕ) → List LentCall → List (Handed Met
       → LibraryRuns e cs hs
       → LibraryRuns s (c ∷ cs) (h ∷ hs)
 
--- on a whole image the library refuses for the arguments alone, and only where the meter is sound: "owner's calls 3, then their own
--- refusal"
-abbrev pub RefusedByArguments : Type 0
-RefusedByArguments =
-    (c : LentOwner) (s e : List ℕ) (n : ℕ)
-    → statusOf s ≡ Whole
-    → takenArguments c ≡ false
-    → OwnerCalled c s e n
-    → (n ≡ faultRefusal false (sound (view (meterOf s))) (fault c)) × (e ≡ s)
+-- what is refused before a call is made, or 0
+abbrev pub refusalBefore : LentCall → List ℕ → ℕ
+refusalBefore (receive a) s = frameRefusal (statusOf s) (lentRefusal a)
+refusalBefore (own c) s = refusalFor c s
 
--- two buffers with whole images of meters that are alike but for the chosen registers, the same list of calls, whatever the two
--- runs hand back: for each call, refused or not, the same number and length, and the same bytes but for granted reads
+-- such a refusal is answered by its number; nothing goes out, and the buffer is as it was
+pub record RefusedBefore (s e : List ℕ) (c : LentCall) (h : Handed Meter view) : Type 0 where
+  pub refusal : h .refusal ≡ refusalBefore c s
+  pub count : h .count ≡ 0
+  pub kept : e ≡ s
+
+abbrev pub BeforeIsRefused : Type 0
+BeforeIsRefused =
+    (s e : List ℕ) (c : LentCall) (h : Handed Meter view)
+    → Library s e c h
+    → (refusalBefore c s ≡ 0 → ⊥)
+    → RefusedBefore s e c h
+
+-- Two state buffers that come to the same when they are read, whole images or not, and hold meters that are alike but for the chosen
+-- registers; the same list of calls; whatever the two runs hand back: for each call, refused or not, the same number and length, and
+-- the same bytes but for granted reads.
 abbrev pub LibraryDemand3 : Type 0
 LibraryDemand3 =
     (ch : Chosen) (s₁ s₂ : List ℕ) (cs₁ cs₂ : List LentCall) (hs₁ hs₂ : List (Handed Meter view))
-    → statusOf s₁ ≡ Whole
-    → statusOf s₂ ≡ Whole
+    → statusOf s₁ ≡ statusOf s₂
     → Alike ch (view (meterOf s₁)) (view (meterOf s₂))
     → AlikeLent ch cs₁ cs₂
     → LibraryRuns s₁ cs₁ hs₁

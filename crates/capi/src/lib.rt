@@ -1,30 +1,20 @@
 // Birlimock for firmware in C and Rust: every call works on a state buffer that holds the image of a meter, and answers a
-// number. The library's own refusals come first: of the state buffer, then of an argument, by document 01's numbers and in its
-// order where 01 knows the fault. Then the call of that name is made
-// on the meter in the buffer, and the meter that comes back is written there, with zeros wherever it holds nothing: by an owner's
-// call where it is accepted, by a frame call unless its refusal leaves the meter unchanged. Else nothing is written.
+// number. What is refused before a call is made comes first: a buffer that holds no whole image, then an argument, by document
+// 01's numbers and in its order where 01 knows the fault. Then the call of that name is made on the meter in the buffer, and the
+// meter that comes back is written there, with zeros wherever it holds nothing: by an owner's call (owner_calls) where it is
+// accepted, by a frame call unless its refusal leaves the meter unchanged. Else nothing is written.
 // include/birlimock.h has the calls as C sees them.
-mod lent;
-mod own;
+mod frame;
 
-use image::CLOCK;
-use image::NAME;
-use image::REGISTER;
 use image::SIZE;
-use meter::Changed;
-use meter::Meter;
-use own::WRONG_ARGUMENT;
-use own::WRONG_STATE_SIZE;
-use own::argument_refusal;
-use own::frame_refusal;
-use own::refusal_of;
 use p2::Received;
 ghost use mathlib.Core.Path.{_≡_};
 ghost use lib.ListN.{length};
 ghost use Rattle.image.specs.Image.{imageSize};
+ghost use Rattle.owner_calls.specs.Lending.{LentOwner};
+ghost use Rattle.owner_calls.specs.Promises.{NewCalled, OwnerCalled};
 ghost use Rattle.p2.specs.Promise.{lent};
-ghost use Rattle.capi.specs.Lending.{LentOwner};
-ghost use Rattle.capi.specs.Promises.{Ends, FrameCalled, FrameEnds, NewCalled, OwnerCalled};
+ghost use Rattle.capi.specs.Promises.{FrameCalled, FrameEnds};
 
 // How many bytes a state buffer has.
 #[no_mangle]
@@ -45,21 +35,7 @@ pub extern "C" fn birlimock_new(
 ) -> u8
     ensures { λ r. ⌜ NewCalled (now (device .entry)) (now (title .entry)) (now («v_title» .entry)) (now («h_title» .entry)) (now (state .entry)) (now (state .exit)) r ⌝ }
 {
-    if state.len() != SIZE {
-        return WRONG_STATE_SIZE;
-    }
-    let n = argument_refusal(lent::are_sized(device, title, v_title, h_title));
-    if n != 0 {
-        return n;
-    }
-    let meter = Meter::new(
-        lent::sixteen_of(device),
-        lent::eight_of(title),
-        lent::eight_of(v_title),
-        lent::eight_of(h_title),
-    );
-    image_write::write_image(meter.cleared(), state);
-    0
+    owner_calls::new(state, device, title, v_title, h_title)
 }
 
 // Registers are given anew. Refusals 101, 102, 3 and 16.
@@ -67,15 +43,7 @@ pub extern "C" fn birlimock_new(
 pub extern "C" fn birlimock_give_registers(state: &mut [u8], registers: &[u8]) -> u8
     ensures { λ r. ⌜ OwnerCalled (LentOwner.registers (now (registers .entry))) (now (state .entry)) (now (state .exit)) r ⌝ }
 {
-    let n = refusal_of(state, image::are_registers(registers), 16);
-    if n != 0 {
-        return n;
-    }
-    let items = image::registers_in(registers);
-    let count = registers.len() / REGISTER;
-    let meter = image::meter_in(state);
-    let changed = meter.give_registers(items, count);
-    end(changed, state)
+    owner_calls::give_registers(state, registers)
 }
 
 // The value of a register is set. Refusals 101, 102, 3 and 17.
@@ -83,13 +51,7 @@ pub extern "C" fn birlimock_give_registers(state: &mut [u8], registers: &[u8]) -
 pub extern "C" fn birlimock_set_value(state: &mut [u8], name: &[u8], value: u32) -> u8
     ensures { λ r. ⌜ OwnerCalled (LentOwner.value (now (name .entry)) value) (now (state .entry)) (now (state .exit)) r ⌝ }
 {
-    let n = refusal_of(state, name.len() == NAME, 17);
-    if n != 0 {
-        return n;
-    }
-    let meter = image::meter_in(state);
-    let changed = meter.set_value(lent::name_of(name), value);
-    end(changed, state)
+    owner_calls::set_value(state, name, value)
 }
 
 // Columns are set. Refusals 101, 102, 3 and 18.
@@ -97,15 +59,7 @@ pub extern "C" fn birlimock_set_value(state: &mut [u8], name: &[u8], value: u32)
 pub extern "C" fn birlimock_set_columns(state: &mut [u8], names: &[u8]) -> u8
     ensures { λ r. ⌜ OwnerCalled (LentOwner.columns (now (names .entry))) (now (state .entry)) (now (state .exit)) r ⌝ }
 {
-    let n = refusal_of(state, image::are_names(names), 18);
-    if n != 0 {
-        return n;
-    }
-    let items = image::names_in(names);
-    let count = names.len() / NAME;
-    let meter = image::meter_in(state);
-    let changed = meter.set_columns(items, count);
-    end(changed, state)
+    owner_calls::set_columns(state, names)
 }
 
 // The capture period is set. Refusals 101, 102, 3 and 15.
@@ -113,13 +67,7 @@ pub extern "C" fn birlimock_set_columns(state: &mut [u8], names: &[u8]) -> u8
 pub extern "C" fn birlimock_set_period(state: &mut [u8], period: u32) -> u8
     ensures { λ r. ⌜ OwnerCalled (LentOwner.period period) (now (state .entry)) (now (state .exit)) r ⌝ }
 {
-    let n = refusal_of(state, true, 15);
-    if n != 0 {
-        return n;
-    }
-    let meter = image::meter_in(state);
-    let changed = meter.set_period(period);
-    end(changed, state)
+    owner_calls::set_period(state, period)
 }
 
 // The clock moves on. Refusals 101, 102, 3 and 14.
@@ -127,13 +75,7 @@ pub extern "C" fn birlimock_set_period(state: &mut [u8], period: u32) -> u8
 pub extern "C" fn birlimock_tick(state: &mut [u8], clock: &[u8]) -> u8
     ensures { λ r. ⌜ OwnerCalled (LentOwner.clock (now (clock .entry))) (now (state .entry)) (now (state .exit)) r ⌝ }
 {
-    let n = refusal_of(state, clock.len() == CLOCK, 14);
-    if n != 0 {
-        return n;
-    }
-    let meter = image::meter_in(state);
-    let changed = meter.tick(lent::clock_of(clock));
-    end(changed, state)
+    owner_calls::tick(state, clock)
 }
 
 // The P5 flag is set by 1 and cleared by 0. Refusals 101, 102, 3 and 104.
@@ -141,13 +83,7 @@ pub extern "C" fn birlimock_tick(state: &mut [u8], clock: &[u8]) -> u8
 pub extern "C" fn birlimock_set_p5(state: &mut [u8], held: u32) -> u8
     ensures { λ r. ⌜ OwnerCalled (LentOwner.p5 held) (now (state .entry)) (now (state .exit)) r ⌝ }
 {
-    let n = refusal_of(state, held < 2, WRONG_ARGUMENT);
-    if n != 0 {
-        return n;
-    }
-    let meter = image::meter_in(state);
-    let changed = meter.set_p5(held == 1);
-    end(changed, state)
+    owner_calls::set_p5(state, held)
 }
 
 // Power-up. Refusals 101, 102 and 3.
@@ -155,13 +91,7 @@ pub extern "C" fn birlimock_set_p5(state: &mut [u8], held: u32) -> u8
 pub extern "C" fn birlimock_power_up(state: &mut [u8]) -> u8
     ensures { λ r. ⌜ OwnerCalled LentOwner.powered (now (state .entry)) (now (state .exit)) r ⌝ }
 {
-    let n = refusal_of(state, true, WRONG_ARGUMENT);
-    if n != 0 {
-        return n;
-    }
-    let meter = image::meter_in(state);
-    let changed = meter.power_up();
-    end(changed, state)
+    owner_calls::power_up(state)
 }
 
 // A frame is received; `sent` is how many bytes of the reply room go out. Refusals 101 and 102, then 1 to 13.
@@ -178,7 +108,7 @@ pub extern "C" fn birlimock_receive(
     ensures { λ r. ⌜ FrameCalled (lent (length (now (reply .entry))) (now (guk .entry)) (now (ak .entry)) (now (challenge .entry)) (now (frame .entry))) (now (state .entry)) (now (state .exit)) (now (reply .entry)) (now (reply .exit)) (now (sent .exit)) r ⌝ }
 {
     *sent = 0;
-    let n = frame_refusal(state, reply.len(), guk, ak, challenge);
+    let n = frame::refusal_of(state, reply.len(), guk, ak, challenge);
     if n != 0 {
         return n;
     }
@@ -188,25 +118,12 @@ pub extern "C" fn birlimock_receive(
     frame_end(received, state)
 }
 
-// The end of an owner's call: its number, and the changed meter in the buffer where it is accepted.
-fn end(changed: Changed, state: &mut [u8]) -> u8
-    ensures { λ r. ⌜ Ends changed (now (state .entry)) (now (state .exit)) r ⌝ }
-{
-    let n = changed.refusal;
-    if n != 0 {
-        return n;
-    }
-    let meter = changed.meter;
-    image_write::write_image(meter.cleared(), state);
-    0
-}
-
 // The end of a frame call: its number, and the meter in the buffer unless the refusal is one that leaves it unchanged.
 fn frame_end(received: Received, state: &mut [u8]) -> u8
     ensures { λ r. ⌜ FrameEnds received (now (state .entry)) (now (state .exit)) r ⌝ }
 {
     let n = received.refusal;
-    if own::leaves_meter(n) {
+    if frame::leaves_meter(n) {
         return n;
     }
     let meter = received.meter;

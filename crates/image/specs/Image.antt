@@ -52,6 +52,24 @@ meterBy NoImage s = blankMeter
 abbrev pub readImage : List ℕ → ImageRead
 readImage s = record { status = statusOf s; meter = meterBy (statusOf s) s }
 
+-- The number by which a call refuses bytes that are no whole image, or 0. Document 01 knows no lengths and no versions of a state;
+-- a byte that no meter has is a state that is not sound, 3.
+
+abbrev pub wrongLength : ℕ
+wrongLength = 101
+
+abbrev pub wrongVersion : ℕ
+wrongVersion = 102
+
+abbrev pub notSound : ℕ
+notSound = 3
+
+abbrev pub imageRefusal : Status → ℕ
+imageRefusal Whole = 0
+imageRefusal WrongLength = wrongLength
+imageRefusal WrongVersion = wrongVersion
+imageRefusal NoImage = notSound
+
 -- What is proved of images.
 
 -- every meter that the struct can hold is read back from its image

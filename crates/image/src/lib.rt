@@ -14,12 +14,20 @@ pub use read::CLOCK;
 pub use read::NAME;
 pub use read::REGISTER;
 ghost use mathlib.Core.Path.{_≡_};
-ghost use Rattle.image.specs.Image.{blankMeter, meterIn, readImage, statusOf};
+ghost use Rattle.image.specs.Image.{blankMeter, imageRefusal, meterIn, readImage, statusOf};
 
 // How many bytes an image has, and the first of them.
 pub const SIZE: usize = 1728;
 
 pub const VERSION: u8 = 1;
+
+// The numbers by which a call refuses bytes that are no whole image.
+pub const WRONG_LENGTH: u8 = 101;
+
+pub const WRONG_VERSION: u8 = 102;
+
+// Document 01's number for a state that is not sound: a byte that no meter has.
+pub const NOT_SOUND: u8 = 3;
 
 // What reading answers beside the meter, by the first test that the bytes fail.
 pub enum Status {
@@ -66,6 +74,18 @@ pub fn status_of(s: &[u8]) -> Status
         return Status::NoImage;
     }
     Status::Whole
+}
+
+// The number by which a call refuses bytes of this status; 0 where they are a whole image.
+pub fn refusal_of(status: Status) -> u8
+    ensures { λ r. ⌜ r ≡ imageRefusal status ⌝ }
+{
+    match status {
+        Status::Whole => 0,
+        Status::WrongLength => WRONG_LENGTH,
+        Status::WrongVersion => WRONG_VERSION,
+        Status::NoImage => NOT_SOUND,
+    }
 }
 
 // The meter in an image, for who knows that it is whole; a blank one where the bytes have another length than an image.

@@ -7,11 +7,9 @@ use Prim.Native.Nat.{ℕ, _+_, _-_, _≤_, _<_}
 use native.Mathlib.Omega.{arith}
 use lib.Dec.{eqb}
 use lib.ListN.{length, take, drop}
-use lib.Seq.{take-length}
-use borrow.Author.Tests.{lt-ltb, le-ltb, eq-eqb, ne-eqb}
+use borrow.Author.Tests.{ne-eqb}
 use Rattle.model.specs.Periods.{listed}
 use Rattle.model.specs.Limits.{longestSent, textRoom, envelopeLength}
-use Rattle.model.proofs.LimitFacts.{reply-room}
 use Rattle.model.specs.declared.Client.{Client}
 use Rattle.model.specs.declared.Client.the-variants.{Verification, Han}
 use Rattle.model.specs.declared.Counters.{Counters}
@@ -20,8 +18,6 @@ use Rattle.model.specs.Objects.{Request, Service, get, action, meaning, Result,
 use Rattle.model.specs.Soundness.{isNone, sound}
 use Rattle.model.specs.Calls.{Lent, Wrap, lentRefusal, act, step}
 use Rattle.wire.specs.Wrote.{Wrote}
-use Rattle.wire.specs.Reading.{filled}
-use Rattle.wire.proofs.ReadingLaws.{fill-here}
 use Rattle.wire.proofs.WroteLaws.{past, there}
 use Rattle.hdlc.specs.declared.Head.{Head}
 use Rattle.hdlc.specs.Replies.{apduFrame, Sent}
@@ -232,35 +228,6 @@ module _ (q : Request) (b : Body) (at : ℕ) {l m : List ℕ} {r : BodyAnswer} (
       (sent-over (t .wrote) u (omega (arith, t .wrote .next, z, envelope-size (length bs), length-apdu h (sealedEnvelope (dedicatedKeys ak n) (n .title) (tag + 4) (n .han .counters .sent) bs))))
 
 -- The call.
-
--- what is lent, test by test
-module _ (n : ℕ) (g k c f : List ℕ) where
-  pub room-short : n < 779 → lentRefusal (lent n g k c f) ≡ 1
-  unfolding lentRefusal
-  room-short h = rw (reply-room, lt-ltb n 779 h)
-
-  module _ (r : 779 ≤ n) where
-    pub guk-wrong : (length g ≡ 16 → ⊥) → lentRefusal (lent n g k c f) ≡ 2
-    unfolding lentRefusal
-    guk-wrong h = rw (reply-room, le-ltb n 779 r, ne-eqb _ _ h)
-
-    module _ (eg : length g ≡ 16) where
-      pub ak-wrong : (length k ≡ 16 → ⊥) → lentRefusal (lent n g k c f) ≡ 2
-      unfolding lentRefusal
-      ak-wrong h = rw (reply-room, le-ltb n 779 r, eq-eqb _ _ eg, ne-eqb _ _ h)
-
-      module _ (ek : length k ≡ 16) where
-        pub challenge-wrong : (length c ≡ 8 → ⊥) → lentRefusal (lent n g k c f) ≡ 2
-        unfolding lentRefusal
-        challenge-wrong h = rw (reply-room, le-ltb n 779 r, eq-eqb _ _ eg, eq-eqb _ _ ek, ne-eqb _ _ h)
-
-        pub lent-right : length c ≡ 8 → lentRefusal (lent n g k c f) ≡ 0
-        unfolding lentRefusal
-        lent-right ec = rw (reply-room, le-ltb n 779 r, eq-eqb _ _ eg, eq-eqb _ _ ek, eq-eqb _ _ ec)
-
--- bytes of the right number fill an array of it whole
-pub filled-whole : (s l : List ℕ) → length s ≡ length l → filled s 0 l ≡ s
-filled-whole s l e = fill-here s 0 l (omega arith) ∙ ap (λ (n : ℕ). take n s) (sym e) ∙ take-length s
 
 module _ (a : Lent) (m : Meter) {l : List ℕ} where
   -- refused by what is lent

@@ -1,3 +1,4 @@
+pub mod LentLaws
 pub mod Endings
 pub mod Lengths
 pub mod Envelopes

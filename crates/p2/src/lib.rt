@@ -15,10 +15,12 @@ use meter::Meter;
 use protocol::Secrets;
 ghost use mathlib.Core.Path.{_≡_};
 ghost use mathlib.Core.Bool.{true};
+ghost use mathlib.Core.List.{[]};
 ghost use Prim.Native.Nat.{_≤_};
 ghost use lib.ListN.{length};
 ghost use Rattle.model.specs.Limits.{longestSent, replyRoom};
 ghost use Rattle.model.specs.Soundness.{sound};
+ghost use Rattle.model.specs.Calls.{lentRefusal};
 ghost use Rattle.hdlc.specs.Reading.{readFrame};
 ghost use Rattle.line.specs.View.{lineOf};
 ghost use Rattle.meter.specs.View.{view};
@@ -54,23 +56,34 @@ pub fn receive(
 ) -> Received
     ensures { λ r. ⌜ Answered (lent (length (now (reply .entry))) (now (guk .entry)) (now (ak .entry)) (now (challenge .entry)) (now (frame .entry))) meter (now (reply .entry)) (now (reply .exit)) r ⌝ }
 {
-    if reply.len() < REPLY_ROOM {
-        return refused(1, meter);
-    }
-    if guk.len() != 16 {
-        return refused(2, meter);
-    }
-    if ak.len() != 16 {
-        return refused(2, meter);
-    }
-    if challenge.len() != 8 {
-        return refused(2, meter);
+    let n = lent_refusal(reply.len(), guk, ak, challenge);
+    if n != 0 {
+        return refused(n, meter);
     }
     if !meter::is_sound(meter) {
         return refused(3, meter);
     }
     let secrets = secrets_of(guk, ak, challenge);
     hear(meter, secrets, frame, reply)
+}
+
+// What is refused of what is lent, whatever the meter and the frame are: 1, 2, or 0 where it is taken.
+pub fn lent_refusal(room: usize, guk: &[u8], ak: &[u8], challenge: &[u8]) -> u8
+    ensures { λ r. ⌜ r ≡ lentRefusal (lent room (now (guk .entry)) (now (ak .entry)) (now (challenge .entry)) []) ⌝ }
+{
+    if room < REPLY_ROOM {
+        return 1;
+    }
+    if guk.len() != 16 {
+        return 2;
+    }
+    if ak.len() != 16 {
+        return 2;
+    }
+    if challenge.len() != 8 {
+        return 2;
+    }
+    0
 }
 
 // Nothing goes out, and the very meter comes back.

@@ -1,7 +1,6 @@
 // The calls of the script program, a function for each verb: the fields are read to the end of the line, and then the call is
 // made. A line that cannot be read makes no call and leaves the meter as it is. The program `day` makes its owner's calls by
 // the same lines, and its frame calls by `receive`.
-use image::Status;
 use meter::Changed;
 use meter::Meter;
 use model::Clock;
@@ -15,13 +14,6 @@ use script_text::verbs::Verb;
 
 // The most bytes of a byte string and of the reply buffer.
 const MOST: usize = 4096;
-
-// Refusals of an image.
-const WRONG_LENGTH: u8 = 101;
-
-const WRONG_VERSION: u8 = 102;
-
-const NO_IMAGE: u8 = 3;
 
 // What a line comes to: the meter; the column of the first character that cannot be read, or 0; the number of the refusal,
 // or 0; and how many bytes of the reply buffer are the reply.
@@ -210,14 +202,11 @@ fn take_image(meter: Meter, line: &[u8], from: Cursor) -> Done {
         return unread(meter, end);
     }
     let read = image::read_image(part(&bytes, a.count));
-    let next = read.meter;
-    let status = read.status;
-    match status {
-        Status::Whole => without_reply(0, next),
-        Status::WrongLength => without_reply(WRONG_LENGTH, meter),
-        Status::WrongVersion => without_reply(WRONG_VERSION, meter),
-        Status::NoImage => without_reply(NO_IMAGE, meter),
+    let n = image::refusal_of(read.status);
+    if n != 0 {
+        return without_reply(n, meter);
     }
+    without_reply(0, read.meter)
 }
 
 fn dump(meter: Meter, line: &[u8], from: Cursor, reply: &mut [u8]) -> Done {

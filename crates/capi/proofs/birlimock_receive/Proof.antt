@@ -1,13 +1,15 @@
 -- `capi::birlimock_receive` meets its contract.
-use Rattle.capi.proofs.CallLaws.{lent-same, frame-refused, frame-called}
+use mathlib.Core.Path.{refl}
+use Rattle.p2.proofs.LentLaws.{lent-told}
+use Rattle.capi.proofs.FrameLaws.{frame-refused, frame-called}
 use borrow.Author.Needs.{needs}
 use Rattle.capi.proofs.birlimock_receive.Statement.{statement}
 use Rattle.capi.proofs.birlimock_receive.Tie as tie
 
 returns : tie.Need-returns
 returns c =
-    let at-frame-refusal = c .before in
-    frame-refused _ (lent-same _ _ _ _ _) (at-frame-refusal .frame-refusal .ensures) (c .if1 .taken)
+    let at-refusal-of = c .before in
+    frame-refused _ (lent-told _ _ _ _ _ refl) (at-refusal-of .refusal-of .ensures) (c .if1 .taken)
 
 returns-2 : tie.Need-returns-2
 returns-2 c =
@@ -15,8 +17,8 @@ returns-2 c =
     let at-receive = at-frame-end .before .before .before .before in
     let at-meter-in = at-receive .before .before in
     let at-if1 = at-meter-in .before .before in
-    let at-frame-refusal = at-if1 .before in
-    frame-called _ (lent-same _ _ _ _ _) (at-frame-refusal .frame-refusal .ensures) (at-if1 .if1 .left) (at-meter-in .meter-in .ensures)
+    let at-refusal-of = at-if1 .before in
+    frame-called _ (lent-told _ _ _ _ _ refl) (at-refusal-of .refusal-of .ensures) (at-if1 .if1 .left) (at-meter-in .meter-in .ensures)
     (at-receive .receive .ensures)
     (at-frame-end .frame-end .ensures)
 

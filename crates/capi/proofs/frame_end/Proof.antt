@@ -1,6 +1,6 @@
 -- `capi::frame_end` meets its contract.
 use mathlib.Core.Path.{sym, _∙_}
-use Rattle.capi.proofs.CallLaws.{frame-ends-kept, frame-ends-written}
+use Rattle.capi.proofs.FrameLaws.{frame-ends-kept, frame-ends-written}
 use borrow.Author.Needs.{needs}
 use Rattle.capi.proofs.frame_end.Statement.{statement}
 use Rattle.capi.proofs.frame_end.Tie as tie

@@ -1,0 +1,53 @@
+-- `owner_calls::new` meets its contract.
+use mathlib.Core.Path.{sym, _∙_}
+use Rattle.image.proofs.Sizes.{sizes}
+use Rattle.owner_calls.proofs.CallLaws.{new-short, new-wrong, new-called, new-fault, new-given}
+use borrow.Author.Needs.{needs}
+use Rattle.owner_calls.proofs.new.Statement.{statement}
+use Rattle.owner_calls.proofs.new.Tie as tie
+
+returns : tie.Need-returns
+returns c =
+    new-short (λ e. c .if1 .taken (e ∙ sizes .image-size))
+
+returns-2 : tie.Need-returns-2
+returns-2 c =
+    let at-fault-of = c .before in
+    let at-are-sized = at-fault-of .before in
+    let at-if1 = at-are-sized .before in
+    new-wrong (at-if1 .if1 .left ∙ sym (sizes .image-size)) (new-fault _ _ _ _ (at-are-sized .are-sized .ensures) (at-fault-of .fault-of .ensures)) (c .if2 .taken)
+
+returns-3 : tie.Need-returns-3
+returns-3 c =
+    let at-write-image = c .before .before in
+    let at-new = at-write-image .before .before in
+    let at-eight-of3 = at-new .before in
+    let at-eight-of2 = at-eight-of3 .before in
+    let at-eight-of = at-eight-of2 .before in
+    let at-sixteen-of = at-eight-of .before in
+    let at-if2 = at-sixteen-of .before in
+    let at-fault-of = at-if2 .before in
+    let at-are-sized = at-fault-of .before in
+    let at-if1 = at-are-sized .before in
+    let s = at-if1 .before .before .before .before .before .before in
+    let a = s .args in
+    let none = sym (new-fault _ _ _ _ (at-are-sized .are-sized .ensures) (at-fault-of .fault-of .ensures)) ∙ at-if2 .if2 .left in
+    let given = new-given (a .device .now) (a .title .now) (a .v-title .now) (a .h-title .now) none (at-sixteen-of .sixteen-of .ensures) (at-eight-of .eight-of .ensures) (at-eight-of2 .eight-of2 .ensures) (at-eight-of3 .eight-of3 .ensures) in
+    new-called (at-if1 .if1 .left ∙ sym (sizes .image-size)) none given (at-new .new .ensures) (at-write-image .write-image .ensures)
+
+pub new-spec : {M : Type 1} → statement M
+new-spec =
+    tie.close
+    (tie.spec
+    returns
+    (λ c κs. search needs)
+    (λ c κs. search needs)
+    returns-2
+    (λ c κs. search needs)
+    (λ c κs. search needs)
+    (λ c κs. search needs)
+    (λ c κs. search needs)
+    (λ c κs. search needs)
+    (λ c κs. search needs)
+    (λ c. search needs)
+    returns-3)
