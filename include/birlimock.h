@@ -11,12 +11,11 @@
  * overlaps nothing else that it is lent, and no other thread touches what is lent until the call returns. No buffer
  * needs an alignment.
  *
- * What a call answers: 0, or the number of a refusal: of document 01's where it has one for the fault, or one of the library's
- * own, 101, 102 and 104. An
- * owner's call that is refused writes nothing. A frame call writes the whole state buffer, changed or not, where it answers 0,
- * 7, 12 or 13, and else nothing of it. What is written has zeros wherever the meter holds nothing: in registers, columns and rows
- * above their counts, and in the keys, challenges and services of associations that are over. So two buffers that were written
- * are equal exactly where their meters hold the same.
+ * What a call answers: 0, or the number of a refusal: document 01's where it has one for the fault, else one of the
+ * library's own, 101, 102 and 104. An owner's call that is refused writes nothing. A frame call writes the whole state
+ * buffer, changed or not, where it answers 0, 7, 12 or 13, and else nothing of it. What is written has zeros wherever the
+ * meter holds nothing: in registers, columns and rows above their counts, and in the keys, challenges and services of
+ * associations that are over. So two buffers that were written are equal exactly where their meters hold the same.
  */
 #ifndef BIRLIMOCK_H
 #define BIRLIMOCK_H
@@ -84,14 +83,14 @@ uint8_t birlimock_new(uint8_t *state, size_t state_len,
                       const uint8_t *v_title, size_t v_title_len,
                       const uint8_t *h_title, size_t h_title_len);
 
-/* The owner's calls. Refusals of each: 101, 102; then 3, the state is unsound (a flag that is neither 0 nor 1, a phase above 2, lists, period or clocks that the calls below would refuse, more than 15 rows, cells that are not one for each column,
- * an association of a kind that the client cannot have, on a link that is down or with services that were not offered); then its own. Each writes the whole state
- * buffer where it answers 0, and else nothing. */
+/* The owner's calls. Refusals of each: 101, 102; then 3, the state is unsound (a flag that is neither 0 nor 1, a phase
+ * above 2; lists, period or clocks that the calls below would refuse, more than 15 rows, cells that are not one for each
+ * column; an association of a kind that the client cannot have, on a link that is down, or with services that were not
+ * offered); then its own. Each writes the whole state buffer where it answers 0, and else nothing. */
 
-/* Registers are given anew, from whole records; columns and rows are emptied. Own refusal: 16, no whole records, a flag in one that is
- * neither 0 nor 1, more than 16, a name twice, or a
- * name of the meter's own objects (0.0.1.0.0.255, 1.0.0.9.1.255, 1.0.0.9.2.255, 0.0.42.0.0.255, 0.0.21.0.6.255,
- * 0.0.96.15.3.255, 0.0.40.0.4.255). */
+/* Registers are given anew, from whole records; columns and rows are emptied. Own refusal: 16, no whole records, a flag in
+ * one that is neither 0 nor 1, more than 16 records, a name twice, or a name of the meter's own objects (0.0.1.0.0.255,
+ * 1.0.0.9.1.255, 1.0.0.9.2.255, 0.0.42.0.0.255, 0.0.21.0.6.255, 0.0.96.15.3.255, 0.0.40.0.4.255). */
 uint8_t birlimock_give_registers(uint8_t *state, size_t state_len,
                                  const uint8_t *registers, size_t registers_len);
 
@@ -100,8 +99,8 @@ uint8_t birlimock_give_registers(uint8_t *state, size_t state_len,
 uint8_t birlimock_set_value(uint8_t *state, size_t state_len,
                             const uint8_t *name, size_t name_len, uint32_t value);
 
-/* The columns of the profile are set, from whole names; rows are emptied. Own refusal: 18, no whole names, a name that no register bears, a
- * name twice, or more than 16. */
+/* The columns of the profile are set, from whole names; rows are emptied. Own refusal: 18, no whole names, a name that no
+ * register bears, a name twice, or more than 16. */
 uint8_t birlimock_set_columns(uint8_t *state, size_t state_len,
                               const uint8_t *names, size_t names_len);
 
@@ -109,8 +108,8 @@ uint8_t birlimock_set_columns(uint8_t *state, size_t state_len,
 uint8_t birlimock_set_period(uint8_t *state, size_t state_len, uint32_t period);
 
 /* The clock moves on, and a row is taken where minutes times 60 plus seconds divide by the period. Its 12 bytes: year (2,
- * high byte first, 2000 to 2099), month, day, FF, hour, minute, second, FF, 80 00 00. Own refusal: 14, other bytes or another number of them, or no real
- * date and time. */
+ * high byte first, 2000 to 2099), month, day, FF, hour, minute, second, FF, 80 00 00. Own refusal: 14, other bytes, another
+ * number of them, or no real date and time. */
 uint8_t birlimock_tick(uint8_t *state, size_t state_len,
                        const uint8_t *clock, size_t clock_len);
 
