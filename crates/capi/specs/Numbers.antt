@@ -5,14 +5,15 @@ use mathlib.Core.Bool.{true}
 use mathlib.Core.List.{List, [], _∷_, _++_}
 use Prim.Native.Nat.{ℕ}
 use Rattle.model.specs.Periods.{listed}
+use Rattle.model.specs.Calls.{frame, owner}
 use Rattle.model.specs.Archive.{numbers}
 use Rattle.model.specs.Demand3.{Handed}
 use Rattle.meter.specs.declared.Meter.{Meter}
 use Rattle.meter.specs.View.{view}
 use Rattle.image.specs.Image.{wrongLength, wrongVersion}
 use Rattle.owner_calls.specs.Refusals.{wrongArgument}
-use Rattle.owner_calls.specs.Lending.{LentOwner, registers, value, columns, period, clock, p5, powered}
-use Rattle.capi.specs.Lending.{LentCall, receive, own, callOf}
+use Rattle.owner_calls.specs.Lending.{LentOwner, registers, value, columns, period, clock, p5, powered, ownerOf}
+use Rattle.capi.specs.Lending.{LentOn, receive, own, LentCall, renew, call}
 use Rattle.capi.specs.Runs.{Library}
 
 -- of the arguments only a flag that is neither 0 nor 1 is unknown to 01
@@ -25,12 +26,14 @@ flagNumbers (clock t) = []
 flagNumbers (p5 h) = wrongArgument ∷ []
 flagNumbers powered = []
 
-abbrev pub unknownNumbers : LentCall → List ℕ
-unknownNumbers (receive a) = []
-unknownNumbers (own c) = flagNumbers c
+-- the numbers of a call on a meter, document 01's and those
+abbrev pub onNumbers : LentOn → List ℕ
+onNumbers (receive a) = numbers (frame a)
+onNumbers (own c) = numbers (owner (ownerOf c)) ++ flagNumbers c
 
 abbrev pub libraryNumbers : LentCall → List ℕ
-libraryNumbers c = wrongLength ∷ wrongVersion ∷ (numbers (callOf c) ++ unknownNumbers c)
+libraryNumbers (renew d t v h) = 0 ∷ wrongLength ∷ wrongArgument ∷ []
+libraryNumbers (call c) = wrongLength ∷ wrongVersion ∷ onNumbers c
 
 -- Proved in proofs/NumberLaws.
 abbrev pub LibraryNumbers : Type 0

@@ -15,7 +15,8 @@ returns-2 c =
     let at-fault-of = c .before in
     let at-are-sized = at-fault-of .before in
     let at-if1 = at-are-sized .before in
-    new-wrong (at-if1 .if1 .left ∙ sym (sizes .image-size)) (new-fault _ _ _ _ (at-are-sized .are-sized .ensures) (at-fault-of .fault-of .ensures)) (c .if2 .taken)
+    let a = at-if1 .before .before .before .before .before .before .args in
+    new-wrong (at-if1 .if1 .left ∙ sym (sizes .image-size)) (new-fault (a .device .now) (a .title .now) (a .v-title .now) (a .h-title .now) (at-are-sized .are-sized .ensures) (at-fault-of .fault-of .ensures)) (c .if2 .taken)
 
 returns-3 : tie.Need-returns-3
 returns-3 c =
@@ -29,9 +30,8 @@ returns-3 c =
     let at-fault-of = at-if2 .before in
     let at-are-sized = at-fault-of .before in
     let at-if1 = at-are-sized .before in
-    let s = at-if1 .before .before .before .before .before .before in
-    let a = s .args in
-    let none = sym (new-fault _ _ _ _ (at-are-sized .are-sized .ensures) (at-fault-of .fault-of .ensures)) ∙ at-if2 .if2 .left in
+    let a = at-if1 .before .before .before .before .before .before .args in
+    let none = sym (new-fault (a .device .now) (a .title .now) (a .v-title .now) (a .h-title .now) (at-are-sized .are-sized .ensures) (at-fault-of .fault-of .ensures)) ∙ at-if2 .if2 .left in
     let given = new-given (a .device .now) (a .title .now) (a .v-title .now) (a .h-title .now) none (at-sixteen-of .sixteen-of .ensures) (at-eight-of .eight-of .ensures) (at-eight-of2 .eight-of2 .ensures) (at-eight-of3 .eight-of3 .ensures) in
     new-called (at-if1 .if1 .left ∙ sym (sizes .image-size)) none given (at-new .new .ensures) (at-write-image .write-image .ensures)
 
