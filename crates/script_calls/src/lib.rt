@@ -202,7 +202,8 @@ fn take_image(meter: Meter, line: &[u8], from: Cursor) -> Done {
         return unread(meter, end);
     }
     let read = image::read_image(part(&bytes, a.count));
-    let n = image::refusal_of(read.status);
+    let status = read.status;
+    let n = image::refusal_of(status);
     if n != 0 {
         return without_reply(n, meter);
     }
