@@ -1,17 +1,17 @@
 -- Each call of the static library has the numbers that specs/Numbers lists for it.
 use mathlib.Core.Path.{_≡_, refl, _∙_, ap}
-use mathlib.Core.Bool.{Bool, true, false, cond, not, _||_, false≢true}
+use mathlib.Core.Bool.{Bool, true, false, cond, _||_, false≢true}
 use mathlib.Core.List.{List, [], _∷_, _++_}
 use Prim.Native.Nat.{ℕ}
-use lib.Dec.{eqb, ltb}
+use lib.Dec.{eqb}
 use lib.ListN.{length}
 use borrow.Author.Tests.{eqb-true, eqb-false}
-use Rattle.model.specs.Limits.{longestSent, replyRoom}
 use Rattle.model.specs.Periods.{listed}
 use Rattle.model.specs.State.{Model}
 use Rattle.model.specs.Soundness.{sound}
 use Rattle.model.specs.Calls.{Lent, lentRefusal, frame, owner, step}
 use Rattle.model.specs.Archive.{numbers}
+use Rattle.model.proofs.AllowedNumbers.{lent-allowed}
 use Rattle.meter.specs.View.{view}
 use Rattle.protocol.specs.Decide.{p2}
 use Rattle.protocol.proofs.Claim.{p2-numbers-allowed}
@@ -24,8 +24,8 @@ use Rattle.owner_calls.specs.Refusals.{wrongArgument, faultOf, sized, isFlag, f
 use Rattle.owner_calls.specs.Lending.{LentOwner, registers, value, columns, period, clock, p5, powered, fault, ownerOf}
 use Rattle.owner_calls.specs.Promises.{refusalFor}
 use Rattle.capi.specs.Refusals.{frameRefusal}
-use Rattle.capi.specs.Lending.{LentOn, receive, own, callOf, LentCall, renew, call}
-use Rattle.capi.specs.Runs.{Library, renews, receives, owns}
+use Rattle.capi.specs.Lending.{LentOn, receive, own, callOf, renew, call}
+use Rattle.capi.specs.Runs.{renews, receives, owns}
 use Rattle.capi.specs.Numbers.{flagNumbers, onNumbers, libraryNumbers, LibraryNumbers}
 
 -- a number of the first of two lists
@@ -86,18 +86,6 @@ own-number NoImage y c = refl
 
 -- Frame calls that the library refuses.
 
-lent-number : (a : Lent) → listed (lentRefusal a) (numbers (frame a)) ≡ true
-unfolding lentRefusal
-lent-number a =
-    go (ltb (a .room) (replyRoom longestSent)) (not (eqb (length (a .guk)) 16)) (not (eqb (length (a .ak)) 16)) (not (eqb (length (a .challenge)) 8))
-  where
-    go : (w x y z : Bool) → listed (cond w 1 (cond x 2 (cond y 2 (cond z 2 0)))) (numbers (frame a)) ≡ true
-    go true x y z = refl
-    go false true y z = refl
-    go false false true z = refl
-    go false false false true = refl
-    go false false false false = refl
-
 frame-number : (a : Lent) (t : Status) (k : ℕ) → listed k (numbers (frame a)) ≡ true → listed (frameRefusal t k) (libraryNumbers (call (receive a))) ≡ true
 frame-number a Whole k e = refl
 frame-number a WrongLength k e = refl
@@ -128,7 +116,7 @@ library-numbers s e c h (receives a l o k n f) = go (eqb (frameRefusal (statusOf
   where
     go : (b : Bool) → eqb (frameRefusal (statusOf s) (lentRefusal a)) 0 ≡ b → listed n (libraryNumbers (call (receive a))) ≡ true
     go true p = made-number (receive a) (view (meterOf s)) n (f .called (eqb-true _ _ p) .promised .refusal)
-    go false p = ap (λ (k : ℕ). listed k (libraryNumbers (call (receive a)))) (f .refused (eqb-false _ _ p) .0) ∙ frame-number a (statusOf s) (lentRefusal a) (lent-number a)
+    go false p = ap (λ (k : ℕ). listed k (libraryNumbers (call (receive a)))) (f .refused (eqb-false _ _ p) .0) ∙ frame-number a (statusOf s) (lentRefusal a) (lent-allowed a)
 library-numbers s e c h (owns d n f) = go (eqb (refusalFor d s) 0) refl
   where
     go : (b : Bool) → eqb (refusalFor d s) 0 ≡ b → listed n (libraryNumbers (call (own d))) ≡ true

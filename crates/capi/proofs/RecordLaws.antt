@@ -7,7 +7,6 @@ use Prim.Native.Nat.{ℕ, zero, suc, _+_, _*_, _/_, _%_, _≤_}
 use native.Mathlib.Omega.{arith}
 use lib.Dec.{eqb}
 use lib.ListN.{length, drop}
-use Rattle.model.specs.declared.Register.{Register}
 use Rattle.model.specs.Names.{withValue}
 use Rattle.model.specs.Demand3.{Chosen, hide, hideRegister}
 use Rattle.image.specs.Codec.{fields, flag, values, allTaken}

@@ -26,7 +26,7 @@ use Rattle.owner_calls.specs.Lending.{LentOwner, registers, value, columns, per
 use Rattle.owner_calls.specs.Promises.{Stores}
 use Rattle.capi.specs.Refusals.{frameRefusal}
 use Rattle.capi.specs.Lending.{LentOn, receive, own, callOf, LentCall, renew, call}
-use Rattle.capi.specs.Runs.{hiddenOwn, hiddenOn, hiddenLent, Library, renews, receives, owns, LibraryRuns, none, more, refusalBefore, RefusedBefore, BeforeIsRefused, SameAnswer, SameAnswers, noneAnswered, moreAnswered, LibraryDemand3}
+use Rattle.capi.specs.Runs.{hiddenOwn, hiddenOn, hiddenLent, Library, renews, receives, owns, none, more, refusalBefore, RefusedBefore, BeforeIsRefused, SameAnswer, SameAnswers, noneAnswered, moreAnswered, LibraryDemand3}
 use Rattle.capi.proofs.RecordLaws.{whole-hidden, list-hidden}
 
 -- Alike calls.

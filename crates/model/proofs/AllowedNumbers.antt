@@ -30,7 +30,8 @@ apart n (x ∷ xs) ys t e f = go (eqb x n) refl e (λ j. apart n xs ys (every-an
     go true i j k = false≢true (rw (eqb-true x n i, f) at (h .0))
     go false i j k = k j
 
-lent-allowed : (a : Lent) → listed (lentRefusal a) (numbers (frame a)) ≡ true
+-- refusals 1 and 2 are among a frame call's numbers
+pub lent-allowed : (a : Lent) → listed (lentRefusal a) (numbers (frame a)) ≡ true
 unfolding lentRefusal
 lent-allowed a =
     go (ltb (a .room) (replyRoom longestSent)) (not (eqb (length (a .guk)) 16)) (not (eqb (length (a .ak)) 16)) (not (eqb (length (a .challenge)) 8))

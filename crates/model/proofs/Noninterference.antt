@@ -14,9 +14,8 @@ use Rattle.model.specs.declared.Register.{Register}
 use Rattle.model.specs.Limits.{maxRows}
 use Rattle.model.specs.Names.{given}
 use Rattle.model.specs.State.{Entry, Body, Model, withLine, withBody, withStore, withClock, withPeriod, withNumber, keeping, withP5}
-use Rattle.model.specs.Clocks.{validClock}
-use Rattle.model.specs.Periods.{permittedPeriod, captureDue}
-use Rattle.model.specs.Soundness.{acceptedRegisters, acceptedColumns, sound}
+use Rattle.model.specs.Periods.{captureDue}
+use Rattle.model.specs.Soundness.{sound}
 use Rattle.model.specs.Objects.{rows, Service, get, action}
 use Rattle.model.specs.Calls.{Call, frame, owner, OwnerCall, ownRefusal, obeyed, giveRegisters, setValue, setColumns, setPeriod, tick, setP5, powerUp, Outcome, done, refused, Decision, answer, serve, Protocol, KeepsLengths, decided, captured, ticked, rowNow, nextNumber, withGiven, withAssigned, withColumns, poweredLine, act, early, step, trace}
 use Rattle.model.specs.Demand3.{Chosen, hide, hideRegister, hideBody, hidden, hiddenOwner, hiddenCall, Alike, AlikeCalls, asksChosen, decidesRead, reads, SameOutcome, SameOutcomes, noneSame, moreSame, TraceDemand3, Handed, Gave, seen, noneRun, moreRun, RunIsTrace, Demand3}

@@ -12,13 +12,13 @@ use Rattle.model.specs.declared.Name.{Name}
 use Rattle.model.specs.declared.Clock.{Clock}
 use Rattle.model.specs.declared.Register.{Register}
 use Rattle.model.specs.Limits.{maxRows, maxRegisters, maxColumns}
-use Rattle.model.specs.Names.{every, given, bearing, blankRegister, place, assigned, nameOf}
+use Rattle.model.specs.Names.{every, bearing, blankRegister, place, assigned, nameOf}
 use Rattle.model.specs.Clocks.{validClock, realDate, realTime, fixedBytes, daysIn, februaryDays}
 use Rattle.model.specs.Periods.{periods, permittedPeriod, captureDue}
 use Rattle.model.specs.State.{Entry, Store, Body, Model, withLine, withBody, withStore, keeping, withRows, withRegisters, withClock, withNumber, withPeriod, withP5, newMeter}
 use Rattle.model.specs.Soundness.{SoundnessTest, registerList, columnList, periodPermitted, clockValid, rowClocksValid, rowCount, rowCells, associationKind, associationOnLink, agreedServices, passes, acceptedRegisters, acceptedColumns, kindsKnown, linksStand, servicesOffered, sound}
 use Rattle.model.specs.Objects.{Content, simple, rows, recordNumber, register, Meaning, known, unknown, meaning, Service, get, action, Request, Result, granted, denied, methodInvoked, afterMethod, afterAction, answered, turned}
-use Rattle.model.specs.Calls.{Call, frame, owner, OwnerCall, ownRefusal, obeyed, giveRegisters, setValue, setColumns, setPeriod, tick, setP5, powerUp, Outcome, Decision, answer, serve, Protocol, decided, nextNumber, rowNow, captured, ticked, withGiven, withAssigned, withColumns, act, early, step}
+use Rattle.model.specs.Calls.{Call, frame, owner, OwnerCall, ownRefusal, obeyed, giveRegisters, setValue, setColumns, setPeriod, tick, setP5, powerUp, Outcome, Decision, answer, serve, Protocol, decided, nextNumber, rowNow, captured, ticked, act, early, step}
 use Rattle.model.specs.Archive.{NewMeterSound, soundLine, lineAfter, KeepsLines, StaysSound}
 use Rattle.model.proofs.ListLaws.{both, both-true, by-test, every-anywhere, passed}
 use Rattle.model.proofs.SoundnessLaws.{sound-passes, sound-from}

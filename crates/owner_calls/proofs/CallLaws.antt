@@ -14,13 +14,12 @@ use Rattle.model.specs.declared.Clock.{Clock}
 use Rattle.model.specs.State.{Model, newMeter}
 use Rattle.model.specs.Soundness.{sound}
 use Rattle.model.specs.Calls.{OwnerCall, owner, answer, Protocol, ownRefusal, obeyed, act, step}
-use Rattle.model.specs.Demand3.{Promised}
 use Rattle.model.proofs.ListLaws.{passed}
 use Rattle.model.proofs.StaySound.{stays-sound}
 use Rattle.meter.specs.declared.Meter.{Meter}
 use Rattle.meter.specs.declared.Changed.{Changed}
 use Rattle.meter.specs.View.{view}
-use Rattle.meter.specs.Promise.{Owned, handed}
+use Rattle.meter.specs.Promise.{Owned}
 use Rattle.meter.specs.Canonical.{Cleared, Fresh}
 use Rattle.image.specs.declared.ImageRead.{ImageRead}
 use Rattle.image.specs.declared.Status.{Status}

@@ -39,7 +39,7 @@ use Rattle.protocol.specs.Outcomes.{keeping}
 use Rattle.counters.specs.Window.{accepting}
 use Rattle.protocol.specs.Decide.{accepted, ruled, decide, wrap, around, seal}
 use Rattle.p2.specs.declared.Received.{Received}
-use Rattle.p2.specs.Promise.{lent, Wipes, LeavesNothing, Answered}
+use Rattle.p2.specs.Promise.{Wipes, LeavesNothing, Answered}
 use Rattle.p2.specs.Inner.{received, SameAssociations, Follows}
 
 -- What went out.

@@ -1,5 +1,5 @@
 -- `answers::answer_action` meets its contract.
-use mathlib.Core.Path.{refl, sym}
+use mathlib.Core.Path.{refl}
 use native.Mathlib.Omega.{arith}
 use Rattle.wire.proofs.WroteLaws.{then}
 use Rattle.model.specs.Objects.{action}

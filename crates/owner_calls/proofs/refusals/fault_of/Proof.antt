@@ -1,5 +1,4 @@
 -- `owner_calls::refusals::fault_of` meets its contract.
-use borrow.Author.Needs.{needs}
 use Rattle.owner_calls.proofs.refusals.fault_of.Statement.{statement}
 use Rattle.owner_calls.proofs.refusals.fault_of.Tie as tie
 

@@ -5,7 +5,6 @@ use Rattle.protocol.specs.Rulings.{none}
 use Rattle.protocol.specs.Decide.{acceptedPlain}
 use Rattle.p2.proofs.Endings.{says-line, stands-plain}
 use Rattle.model.specs.State.{associated}
-use Rattle.model.specs.declared.Client.the-variants.{Verification}
 use mathlib.Core.List.{[]}
 use borrow.Author.Needs.{needs}
 use Rattle.p2.specs.Inner.{meterWith}
