@@ -14,8 +14,8 @@
  * What a call answers: 0, or the number of a refusal: document 01's where it has one for the fault, else one of the
  * library's own, 101, 102 and 104. An owner's call that is refused writes nothing. A frame call writes the whole state
  * buffer, changed or not, where it answers 0, 7, 12 or 13, and else nothing of it. What is written has zeros wherever the
- * meter holds nothing: in registers, columns and rows above their counts, and in the keys, challenges and services of
- * associations that are over. So two buffers that were written are equal exactly where their meters hold the same.
+ * meter holds nothing: in registers, columns and rows above their counts, in the keys, challenges and services of
+ * associations that are over, and in challenges that were answered. So two buffers that were written are equal exactly where their meters hold the same.
  */
 #ifndef BIRLIMOCK_H
 #define BIRLIMOCK_H
@@ -66,7 +66,7 @@ extern "C" {
 #define BIRLIMOCK_NO_REGISTER 17
 #define BIRLIMOCK_BAD_COLUMNS 18
 
-/* The library's own refusals, of what document 01 does not know: 101 and 102 come before those above. */
+/* The library's own refusals, of what document 01 does not know. 101 and 102 stand where 01 tests the state, before 3. */
 #define BIRLIMOCK_WRONG_STATE_SIZE 101  /* the state buffer has another length than BIRLIMOCK_STATE_SIZE */
 #define BIRLIMOCK_WRONG_VERSION 102     /* its first byte is not the version of this layout */
 #define BIRLIMOCK_WRONG_ARGUMENT 104    /* a new meter's argument has a wrong length, or a flag is neither 0 nor 1 */
@@ -121,7 +121,7 @@ uint8_t birlimock_power_up(uint8_t *state, size_t state_len);
 
 /* The frame call: a frame was received. Lent are GUK and AK (16 bytes each), a challenge of 8 bytes that the caller draws
  * anew for each call, and room for the reply, BIRLIMOCK_REPLY_ROOM bytes or more.
- * Refusals: 101, 102; then 1, 2, 3; then one of 4 to 13. Writes: *sent, how many bytes of the reply room go out, 0 where
+ * Refusals: 1, 2; then 101, 102, 3; then one of 4 to 13. Writes: *sent, how many bytes of the reply room go out, 0 where
  * nothing goes out; these bytes of the reply room and no others; the state buffer as said above. A refusal may have a reply,
  * too: send what *sent counts, whatever the number is. */
 uint8_t birlimock_receive(uint8_t *state, size_t state_len,

@@ -75,9 +75,9 @@ fn refused_event(refusal: u8) -> &'static str {
     }
 }
 
-/// A frame call tests what it is lent before a byte that no meter has.
+/// A frame call tests what it is lent before the state.
 fn no_state_answer(refusal: u8, call: &Call) -> Outcome {
-    if let (NO_STATE, Call::Receive { guk, authentication, challenge, room, .. }) = (refusal, call) {
+    if let Call::Receive { guk, authentication, challenge, room, .. } = call {
         if let Some(refused) = (Lent { guk, authentication, challenge, room: *room }).refusal() {
             return refused;
         }

@@ -22,14 +22,14 @@ use Rattle.protocol.proofs.Outcomes.{row-lent}
 use Rattle.p2.specs.declared.Received.{Received}
 use Rattle.p2.specs.Promise.{Answered, handed as received}
 use Rattle.image.specs.declared.Status.{Status}
-use Rattle.image.specs.declared.Status.the-variants.{Whole, WrongLength, WrongVersion, NoImage}
-use Rattle.image.specs.Image.{meterOf, meterIn, statusOf, imageRefusal, notSound}
+use Rattle.image.specs.declared.Status.the-variants.{Whole}
+use Rattle.image.specs.Image.{meterOf, meterIn, statusOf, imageRefusal}
 use Rattle.image.proofs.ImageLaws.{passed as whole-image}
 use Rattle.image_write.specs.declared.Written.{Written}
 use Rattle.image_write.specs.Writing.{Writes}
 use Rattle.owner_calls.specs.Promises.{imageFor, Stores}
-use Rattle.owner_calls.proofs.CallLaws.{read-meter, stored}
-use Rattle.capi.specs.Refusals.{lentOrState, frameRefusal}
+use Rattle.owner_calls.proofs.CallLaws.{read-meter, stored, image-whole}
+use Rattle.capi.specs.Refusals.{frameRefusal}
 use Rattle.capi.specs.Promises.{Receives, FrameCalled, FrameEnds}
 
 -- which refusals leave the meter unchanged
@@ -61,33 +61,22 @@ keeping-is n z s =
 
 -- What is refused before the call.
 
-module _ (t : Status) (x : ℕ) {n : ℕ} (e : n ≡ imageRefusal t) where
-  -- by a length or a version, or by nothing
-  pub refusal-other : (n ≡ notSound → ⊥) → n ≡ frameRefusal t x
-  refusal-other h = e ∙ rw (ne-eqb (imageRefusal t) notSound (λ z. h (e ∙ z))) refl
-
+module _ (t : Status) (x : ℕ) {k : ℕ} (l : k ≡ x) where
   -- by what is lent
-  pub refusal-lent : {k : ℕ} → n ≡ notSound → k ≡ x → (k ≡ 0 → ⊥) → k ≡ frameRefusal t x
-  refusal-lent z l h = l ∙ rw (eq-eqb (imageRefusal t) notSound (sym e ∙ z), ne-eqb x 0 (λ o. h (l ∙ o))) refl
+  pub refusal-lent : (k ≡ 0 → ⊥) → k ≡ frameRefusal t x
+  refusal-lent h = l ∙ rw (ne-eqb x 0 (λ z. h (l ∙ z))) refl
 
-  -- by the state
-  pub refusal-state : {k : ℕ} → n ≡ notSound → k ≡ x → k ≡ 0 → n ≡ frameRefusal t x
-  refusal-state z l h = z ∙ rw (eq-eqb (imageRefusal t) notSound (sym e ∙ z), eq-eqb x 0 (sym l ∙ h)) refl
+  -- by the state buffer, or by nothing
+  pub refusal-state : {n : ℕ} → k ≡ 0 → n ≡ imageRefusal t → n ≡ frameRefusal t x
+  refusal-state h e = e ∙ rw (eq-eqb x 0 (sym l ∙ h)) refl
 
 -- there is none: the image is whole
-
-lent-some : (k : ℕ) → lentOrState k ≡ 0 → ⊥
-lent-some k = go (eqb k 0) refl
-  where
-    go : (b : Bool) → eqb k 0 ≡ b → cond b notSound k ≡ 0 → ⊥
-    go true p e = omega arith
-    go false p e = true≢false (sym (eq-eqb k 0 e) ∙ p)
-
 frame-none : (t : Status) (k : ℕ) → frameRefusal t k ≡ 0 → t ≡ Whole
-frame-none Whole k e = refl
-frame-none WrongLength k e = absurd (omega arith)
-frame-none WrongVersion k e = absurd (omega arith)
-frame-none NoImage k e = absurd (lent-some k e)
+frame-none t k = go (eqb k 0) refl
+  where
+    go : (b : Bool) → eqb k 0 ≡ b → cond b (imageRefusal t) k ≡ 0 → t ≡ Whole
+    go true p e = image-whole t e
+    go false p e = absurd (true≢false (sym (eq-eqb k 0 e) ∙ p))
 
 -- The call.
 

@@ -17,7 +17,7 @@ use Rattle.protocol.specs.Decide.{p2}
 use Rattle.protocol.proofs.Claim.{p2-numbers-allowed}
 use Rattle.image.specs.declared.Status.{Status}
 use Rattle.image.specs.declared.Status.the-variants.{Whole, WrongLength, WrongVersion, NoImage}
-use Rattle.image.specs.Image.{imageSize, meterOf, statusOf, wrongLength, wrongVersion, notSound}
+use Rattle.image.specs.Image.{imageSize, meterOf, statusOf, imageRefusal, wrongLength, wrongVersion, notSound}
 use Rattle.image.specs.Layout.{namePart, registerPart}
 use Rattle.image.specs.Lists.{wholeList}
 use Rattle.owner_calls.specs.Refusals.{wrongArgument, faultOf, sized, isFlag, faultRefusal, refusalBy, newSized, newRefusal}
@@ -86,14 +86,17 @@ own-number NoImage y c = refl
 
 -- Frame calls that the library refuses.
 
+image-number : (a : Lent) (t : Status) → listed (imageRefusal t) (libraryNumbers (call (receive a))) ≡ true
+image-number a Whole = refl
+image-number a WrongLength = refl
+image-number a WrongVersion = refl
+image-number a NoImage = refl
+
 frame-number : (a : Lent) (t : Status) (k : ℕ) → listed k (numbers (frame a)) ≡ true → listed (frameRefusal t k) (libraryNumbers (call (receive a))) ≡ true
-frame-number a Whole k e = refl
-frame-number a WrongLength k e = refl
-frame-number a WrongVersion k e = refl
-frame-number a NoImage k e = go (eqb k 0)
+frame-number a t k e = go (eqb k 0)
   where
-    go : (b : Bool) → listed (cond b notSound k) (libraryNumbers (call (receive a))) ≡ true
-    go true = refl
+    go : (b : Bool) → listed (cond b (imageRefusal t) k) (libraryNumbers (call (receive a))) ≡ true
+    go true = image-number a t
     go false = known (receive a) k e
 
 -- A new meter.

@@ -8,19 +8,15 @@ ghost use Rattle.p2.specs.Promise.{lent};
 ghost use Rattle.image.specs.Image.{statusOf};
 ghost use Rattle.capi.specs.Refusals.{frameRefusal};
 
-// On this state buffer: reply room, keys and challenge are tested before a byte that no meter has, as before any unsound state.
+// On this state buffer: reply room, keys and challenge are tested before the state.
 pub fn refusal_of(state: &[u8], room: usize, guk: &[u8], ak: &[u8], challenge: &[u8]) -> u8
     ensures { λ r. ⌜ r ≡ frameRefusal (statusOf (now (state .entry))) (lentRefusal (lent room (now (guk .entry)) (now (ak .entry)) (now (challenge .entry)) [])) ⌝ }
 {
-    let n = image::refusal_of(image::status_of(state));
-    if n != image::NOT_SOUND {
+    let n = p2::lent_refusal(room, guk, ak, challenge);
+    if n != 0 {
         return n;
     }
-    let k = p2::lent_refusal(room, guk, ak, challenge);
-    if k != 0 {
-        return k;
-    }
-    n
+    image::refusal_of(image::status_of(state))
 }
 
 // Whether a frame call that answers this number leaves the meter unchanged.

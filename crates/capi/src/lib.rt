@@ -1,8 +1,8 @@
 // Birlimock for firmware in C and Rust: every call works on a state buffer that holds the image of a meter, and answers a
-// number. What is refused before a call is made comes first: a buffer that holds no whole image, then an argument, by document
-// 01's numbers and in its order where 01 knows the fault. Then the call of that name is made on the meter in the buffer, and the
-// meter that comes back is written there, with zeros wherever it holds nothing: by an owner's call (owner_calls) where it is
-// accepted, by a frame call unless its refusal leaves the meter unchanged. Else nothing is written.
+// number. What is refused before a call is made comes first, in document 01's order and by its numbers where it knows the fault:
+// a buffer that holds no whole image stands for a state that is not sound. Then the call of that name is made on the meter in
+// the buffer, and the meter that comes back is written there, with zeros wherever it holds nothing: by an owner's call
+// (owner_calls) where it is accepted, by a frame call unless its refusal leaves the meter unchanged. Else nothing is written.
 // include/birlimock.h has the calls as C sees them.
 mod frame;
 
@@ -94,7 +94,7 @@ pub extern "C" fn birlimock_power_up(state: &mut [u8]) -> u8
     owner_calls::power_up(state)
 }
 
-// A frame is received; `sent` is how many bytes of the reply room go out. Refusals 101 and 102, then 1 to 13.
+// A frame is received; `sent` is how many bytes of the reply room go out. Refusals 1 and 2, then 101, 102 and 3, then 4 to 13.
 #[no_mangle]
 pub extern "C" fn birlimock_receive(
     state: &mut [u8],

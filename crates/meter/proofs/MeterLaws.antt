@@ -10,7 +10,7 @@ use Rattle.model.specs.Names.{given}
 use Rattle.model.specs.Clocks.{validClock}
 use Rattle.model.specs.Periods.{permittedPeriod}
 use Rattle.model.specs.Soundness.{registerList, columnList, periodPermitted, clockValid, rowClocksValid, rowCount, rowCells, associationKind, associationOnLink, agreedServices, passes, acceptedRegisters, acceptedColumns, sound}
-use Rattle.model.specs.Calls.{OwnerCall, owner, giveRegisters, setValue, setColumns, setPeriod, tick, setP5, powerUp, refused, done, Protocol, ticked, poweredLine, act, early, step}
+use Rattle.model.specs.Calls.{OwnerCall, owner, giveRegisters, setValue, setColumns, setPeriod, tick, setP5, powerUp, refused, done, Protocol, ticked, poweredLine, act, step}
 use Rattle.model.proofs.ListLaws.{both}
 use Rattle.store.specs.declared.Registers.{Registers}
 use Rattle.store.specs.declared.Columns.{Columns}
@@ -45,18 +45,18 @@ fits m s = sound-fits (m .body) (both (bodySound (bodyOf (m .body))) (lineSound 
 
 -- How a call ends.
 
-module _ (c : OwnerCall) (m : Meter) (own : early (owner c) ≡ 0) where
+module _ (c : OwnerCall) (m : Meter) where
   pub unsound : sound (view m) ≡ false → Owned c m (changed 3 m)
   unfolding step
-  unsound s = record { promised = λ p. rw (own, s) (record { refusal = refl; count = refl; meter = refl; room = refl }); kept = λ _. refl }
+  unsound s = record { promised = λ p. rw s (record { refusal = refl; count = refl; meter = refl; room = refl }); kept = λ _. refl }
 
   pub refuses : (n : ℕ) → sound (view m) ≡ true → ((p : Protocol) → act p (owner c) (view m) ≡ refused n (view m)) → Owned c m (changed n m)
   unfolding step
-  refuses n s h = record { promised = λ p. rw (own, s, h p) (record { refusal = refl; count = refl; meter = refl; room = refl }); kept = λ _. refl }
+  refuses n s h = record { promised = λ p. rw (s, h p) (record { refusal = refl; count = refl; meter = refl; room = refl }); kept = λ _. refl }
 
   pub accepts : (next : Meter) → sound (view m) ≡ true → ((p : Protocol) → act p (owner c) (view m) ≡ done (view next)) → Owned c m (changed 0 next)
   unfolding step
-  accepts next s h = record { promised = λ p. rw (own, s, h p) (record { refusal = refl; count = refl; meter = refl; room = refl }); kept = λ k. absurd (k refl) }
+  accepts next s h = record { promised = λ p. rw (s, h p) (record { refusal = refl; count = refl; meter = refl; room = refl }); kept = λ k. absurd (k refl) }
 
 -- The meters.
 

@@ -10,7 +10,7 @@ use Rattle.model.specs.Clocks.{validClock, realDate, realTime, fixedBytes, days
 use Rattle.model.specs.Periods.{periods}
 use Rattle.model.specs.Services.{within}
 use Rattle.model.specs.Soundness.{acceptedRegisters, acceptedColumns, sound}
-use Rattle.model.specs.Calls.{OwnerCall, owner, early, step}
+use Rattle.model.specs.Calls.{OwnerCall, step}
 use Rattle.store.specs.Lists.{registersOf, columnsOf, entriesOf}
 use Rattle.line.specs.View.{lineOf}
 use Rattle.body.specs.View.{bodyOf}
@@ -27,13 +27,13 @@ verdicts-right = record { sound = refl; unsound = refl; sixteen = refl }
 
 -- Refusal 3.
 
-refused-3 : (c : OwnerCall) (m : Meter) (r : Changed) → early (owner c) ≡ 0 → sound (view m) ≡ false → Owned c m r → r .refusal ≡ 3
+refused-3 : (c : OwnerCall) (m : Meter) (r : Changed) → sound (view m) ≡ false → Owned c m r → r .refusal ≡ 3
 unfolding step
-refused-3 c m r own s o = rw (own, s) at (owned-refusal c m r o)
+refused-3 c m r s o = rw s at (owned-refusal c m r o)
 
 pub unsound-answers-3 : UnsoundAnswers3
-unsound-answers-3 m s c r own o =
-    let three = refused-3 c m r own s o in
+unsound-answers-3 m s c r o =
+    let three = refused-3 c m r s o in
     let same = o .kept (λ z. omega arith) in
     λ i. record { refusal = three i; meter = same i }
 

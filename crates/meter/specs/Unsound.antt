@@ -15,7 +15,7 @@ use Rattle.model.specs.Names.{every, distinct, allAmong, noneAmong, nameOf}
 use Rattle.model.specs.State.{Model, withBody, withStore, withRows}
 use Rattle.model.specs.Objects.{ownNames, profileNamed}
 use Rattle.model.specs.Soundness.{SoundnessTest, registerList, columnList, periodPermitted, clockValid, rowClocksValid, rowCount, rowCells, associationKind, associationOnLink, agreedServices, passes, soundnessTests, sound}
-use Rattle.model.specs.Calls.{OwnerCall, owner, early}
+use Rattle.model.specs.Calls.{OwnerCall}
 use Rattle.store.specs.declared.Registers.{Registers}
 use Rattle.store.specs.declared.Columns.{Columns}
 use Rattle.store.specs.declared.Row.{Row}
@@ -257,7 +257,7 @@ pub record VerdictsRight : Type 0 where
 
 -- refusal 3, and the very meter back
 abbrev pub Answers3 : Meter → Type 0
-Answers3 m = (c : OwnerCall) (r : Changed) → early (owner c) ≡ 0 → Owned c m r → r ≡ changed 3 m
+Answers3 m = (c : OwnerCall) (r : Changed) → Owned c m r → r ≡ changed 3 m
 
 -- every unsound meter gets it of every owner's call
 abbrev pub UnsoundAnswers3 : Type 0

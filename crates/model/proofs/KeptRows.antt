@@ -17,7 +17,7 @@ use Rattle.model.specs.State.{Line, Body, Model, withBody, withClock}
 use Rattle.model.specs.Soundness.{sound}
 use Rattle.model.specs.Objects.{Content, simple, rows, recordNumber, register, Meaning, known, unknown, meaning, Service, get, action, Request, Result, granted, denied, refusalOf, methodInvoked, afterMethod, afterAction, answered, turned, profileNamed}
 use Rattle.model.specs.Calls.{Lent, Call, frame, owner, OwnerCall, ownRefusal, obeyed, giveRegisters, setValue, setColumns, setPeriod, tick, setP5, powerUp, Outcome, done, Wrap, Decision, answer, serve, Protocol, decided, rowNow, captured, ticked, act, early, step}
-use Rattle.model.specs.Archive.{OneMore, DueTicks, onProfile, resets, mayEmpty, RowsAfter, stay, grow, empty, RowsStay}
+use Rattle.model.specs.Archive.{OneMore, DueTicks, onProfile, empties, mayEmpty, RowsAfter, stay, grow, empty, RowsStay}
 use Rattle.model.proofs.ListLaws.{by-test}
 use Rattle.model.proofs.ObjectLaws.{Acts, ActsBy, action-acts}
 
@@ -69,7 +69,7 @@ module _ (p : Protocol) (m : Model) where
   served-rows a q (action k v) w l o d e z f =
       action-rows (frame a) o (meaning (q .client) (q .name) (m .body .store .registers)) (methodInvoked q k v (meaning (q .client) (q .name) (m .body .store .registers)))
       (q .name) k (action-acts q k v (m .body .store .registers))
-      (λ h. ap resets d ∙ ap (onProfile (q .name)) e ∙ h) z f
+      (λ h. ap empties d ∙ ap (onProfile (q .name)) e ∙ h) z f
 
   owner-rows : (o : OwnerCall) → RowsAfter p (owner o) m (done (obeyed o m))
   unfolding ticked

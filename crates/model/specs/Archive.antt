@@ -52,9 +52,9 @@ abbrev pub onProfile : Name → Service → Bool
 onProfile n (get a s) = false
 onProfile n (action k v) = sameName profileNamed n && eqb k 1
 
-abbrev pub resets : Decision → Bool
-resets (answer s) = false
-resets (serve q w l) = onProfile (q .name) (q .service)
+abbrev pub empties : Decision → Bool
+empties (answer s) = false
+empties (serve q w l) = onProfile (q .name) (q .service)
 
 abbrev pub ownerEmpties : OwnerCall → Bool
 ownerEmpties (giveRegisters rs) = true
@@ -66,7 +66,7 @@ ownerEmpties (setP5 f) = false
 ownerEmpties powerUp = true
 
 abbrev pub mayEmpty : Protocol → Call → Line → Bool
-mayEmpty p (frame a) l = resets ((p .decide) l a)
+mayEmpty p (frame a) l = empties ((p .decide) l a)
 mayEmpty p (owner o) l = ownerEmpties o
 
 -- what a call leaves of the rows: all of them; or, at a due tick, one more; or none, where an accepted call may empty them

@@ -84,7 +84,7 @@ withPeriod p b = record { device = b .device; clock = b .clock; period = p; numb
 abbrev pub withNumber : ℕ → Body → Body
 withNumber n b = record { device = b .device; clock = b .clock; period = b .period; number = n; store = b .store }
 
--- the store that keeps these rows
+-- the store of these: the one maker of a store that gets rows, so that what goes with them stands in one place
 abbrev pub keeping : List Register → List Name → List Entry → Store
 keeping xs cs rs = record { registers = xs; columns = cs; rows = rs }
 

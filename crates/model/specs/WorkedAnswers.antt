@@ -1,7 +1,7 @@
 -- Worked answers of a body, byte by byte: each kind of data that a meter sends, and the answer to a method that V names, which
 -- no frame reaches, since V is never let ask for one. The definitions of specs/Objects give them all (`AnswersHold`), which is
--- proved in proofs/WorkedAnswers, by computation. Kinds are those of document 01: 01 array, 02 structure, 06 and 12 numbers of 32 and 16 bits, 09 octet string,
--- 0A visible string, 0F integer, 16 enumeration. No other definition cites this table.
+-- proved in proofs/WorkedAnswers, by computation. Kinds are those of document 01: 01 array, 02 structure, 06 and 12 numbers of 32
+-- and 16 bits, 09 octet string, 0A visible string, 0F integer, 16 enumeration. No other definition cites this table.
 use mathlib.Core.Path.{_≡_}
 use mathlib.Core.Bool.{Bool, true, _&&_}
 use mathlib.Core.List.{List, [], _∷_, _++_}

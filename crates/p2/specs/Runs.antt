@@ -26,7 +26,7 @@ pub data Runs : Meter → List Call → List (Handed Meter view) → Type 0 wher
       → Runs (h .meter) cs hs
       → Runs m (c ∷ cs) (h ∷ hs)
 
--- "whoever is not granted a read of a register learns nothing of its value": two meters that are alike but for the chosen
+-- Whoever is not granted a read of a register learns nothing of its value: two meters that are alike but for the chosen
 -- registers, the same list of calls, whatever the two runs hand back. The model's `Demand3` has the customer's words beside
 -- each premise; only the runs differ.
 abbrev pub RunsDemand3 : Type 0

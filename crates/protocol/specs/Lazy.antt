@@ -253,7 +253,7 @@ HanLetIn =
     → Enters (m .line .han .peer .title) e link aarq proof
     → LetInH m e link aarq proof
 
--- "An invented counter": every request of H that is opened and read.
+-- An invented counter: every request of H that is opened and read.
 
 -- an associated H asks this text with this tag, in an envelope under the dedicated key, with a counter in the window
 pub record Asking (a : Lent) (l : Line) (tag counter : ℕ) (text : List ℕ) : Type 0 where

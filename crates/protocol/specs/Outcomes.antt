@@ -1,7 +1,7 @@
 -- Document 01's table "What goes out", for frame calls: its rows, and its cells one by one, of every meter, sound or not, and
 -- whatever is lent. Of its columns these are the number, what goes out and what the meter then holds; "Met when" is what `Decide`
--- itself says, and a statement of its own for 7 alone (`Dropped`). `Answers` alone asks something of the meter: that its own title, which an AARE holds, has its 8 bytes; a
--- longer one would not fit the frame. Proved in proofs/Outcomes and proofs/Framed.
+-- itself says, and a statement of its own for 7 alone (`Dropped`). `Answers` alone asks something of the meter: that its own title,
+-- which an AARE holds, has its 8 bytes; a longer one would not fit the frame. Proved in proofs/Outcomes and proofs/Framed.
 use mathlib.Core.Path.{_≡_}
 use mathlib.Core.Bool.{true, false}
 use mathlib.Core.List.{List, [], _∷_}
