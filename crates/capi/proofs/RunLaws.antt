@@ -9,9 +9,9 @@ use lib.ListN.{length, take, drop, getD}
 use borrow.Author.Tests.{eqb-true, eqb-false}
 use Rattle.model.specs.State.{Model, newMeter}
 use Rattle.model.specs.Calls.{lentRefusal, Call, giveRegisters, setValue, owner}
-use Rattle.model.specs.Demand3.{Chosen, hide, hidden, hiddenOwner, hiddenCall, Alike, Handed, seen, Promised, noneRun, moreRun}
+use Rattle.model.specs.Demand3.{Chosen, hidden, hiddenOwner, hiddenCall, Alike, Handed, seen, Promised, noneRun, moreRun}
 use Rattle.model.specs.Soundness.{sound}
-use Rattle.model.proofs.HidingLaws.{sound-hidden}
+use Rattle.model.proofs.HidingLaws.{hide-hide, sound-hidden}
 use Rattle.model.proofs.Noninterference.{first-same}
 use Rattle.meter.specs.declared.Meter.{Meter}
 use Rattle.meter.specs.View.{view}
@@ -31,10 +31,6 @@ use Rattle.capi.proofs.RecordLaws.{whole-hidden, list-hidden}
 
 -- Alike calls.
 
-hide-twice : (b : Bool) (v : ℕ) → hide b v ≡ hide b (hide b v)
-hide-twice true v = refl
-hide-twice false v = refl
-
 module _ (ch : Chosen) where
   -- what is tested of arguments is the same for alike arguments
   fault-hidden : (c : LentOwner) → fault c ≡ fault (hiddenOwn ch c)
@@ -48,7 +44,7 @@ module _ (ch : Chosen) where
 
   own-call-hidden : (c : LentOwner) → hiddenOwner ch (ownerOf c) ≡ hiddenOwner ch (ownerOf (hiddenOwn ch c))
   own-call-hidden (registers s) = ap giveRegisters (list-hidden ch s)
-  own-call-hidden (value n v) = ap (setValue (record { bytes = n })) (hide-twice (ch (record { bytes = n })) v)
+  own-call-hidden (value n v) = ap (setValue (record { bytes = n })) (sym (hide-hide (ch (record { bytes = n })) v))
   own-call-hidden (columns s) = refl
   own-call-hidden (period d) = refl
   own-call-hidden (clock t) = refl
@@ -76,6 +72,16 @@ next-is : {s e : List ℕ} {c : LentCall} {h : Handed Meter view} → Library s 
 next-is (renews d t v y n f) = refl
 next-is (receives a l o k n f) = refl
 next-is (owns d n f) = refl
+
+-- what a meter of the code holds, but for the chosen registers
+abbrev unchosen : Chosen → Meter → Model
+unchosen ch m = hidden ch (view m)
+
+-- meters handed back that are alike are alike in the buffers
+next-alike : (ch : Chosen) {s₁ e₁ s₂ e₂ : List ℕ} {c₁ c₂ : LentCall} {h₁ h₂ : Handed Meter view} → Library s₁ e₁ c₁ h₁ → Library s₂ e₂ c₂ h₂
+    → Alike ch (view (h₁ .meter)) (view (h₂ .meter))
+    → Alike ch (view (meterOf e₁)) (view (meterOf e₂))
+next-alike ch x y a = sym (ap (unchosen ch) (next-is x)) ∙ a ∙ ap (unchosen ch) (next-is y)
 
 -- it is made: the model's promise of the meter in the buffer, and the buffer holds a whole image again
 record Made (s e : List ℕ) (c : Call) (h : Handed Meter view) : Type 0 where
@@ -160,8 +166,7 @@ module _ (ch : Chosen) (s₁ s₂ : List ℕ) (w : statusOf s₁ ≡ statusOf s�
 
     next-refused : Alike ch (view (h₁ .meter)) (view (h₂ .meter))
     next-refused =
-        subst (λ (m : Meter). Alike ch (view m) (view (h₂ .meter))) (sym (next-is x ∙ ap meterOf (first .kept)))
-        (subst (λ (m : Meter). Alike ch (view (meterOf s₁)) (view m)) (sym (next-is y ∙ ap meterOf (second .kept))) a)
+        ap (unchosen ch) (next-is x ∙ ap meterOf (first .kept)) ∙ a ∙ sym (ap (unchosen ch) (next-is y ∙ ap meterOf (second .kept)))
 
     same-refused : (c : LentCall) → SameAnswer ch c (view (meterOf s₁)) (seen Meter view h₁) (seen Meter view h₂)
     same-refused (renew d t v h) = record { refusal = numbers-refused; sent = sent-refused; next = next-refused }
@@ -171,7 +176,7 @@ module _ (ch : Chosen) (s₁ s₂ : List ℕ) (w : statusOf s₁ ≡ statusOf s�
     both-refused =
         record {
           same = same-refused c₁;
-          next = subst (λ (m : Meter). Alike ch (view (meterOf e₁)) (view m)) (next-is y) (subst (λ (m : Meter). Alike ch (view m) (view (h₂ .meter))) (next-is x) next-refused);
+          next = next-alike ch x y next-refused;
           status = ap statusOf (first .kept) ∙ w ∙ sym (ap statusOf (second .kept));
         }
 
@@ -188,7 +193,7 @@ module _ (ch : Chosen) (s₁ s₂ : List ℕ) (w : statusOf s₁ ≡ statusOf s�
         let same = first-same (p2-demand3 ch (meterOf s₁) (meterOf s₂) (callOf c₁ ∷ []) (callOf c₂ ∷ []) (h₁ ∷ []) (h₂ ∷ []) a (ap (λ (d : Call). d ∷ []) calls-same) (moreRun (m₁ .promised) noneRun) (moreRun (m₂ .promised) noneRun)) in
         record {
           same = same;
-          next = subst (λ (m : Meter). Alike ch (view (meterOf e₁)) (view m)) (next-is y) (subst (λ (m : Meter). Alike ch (view m) (view (h₂ .meter))) (next-is x) (same .next));
+          next = next-alike ch x y (same .next);
           status = m₁ .again ∙ sym (m₂ .again);
         }
 
@@ -213,7 +218,7 @@ module _ (ch : Chosen) {e₁ e₂ : List ℕ} {h₁ h₂ : Handed Meter view} {d
         same = record {
           refusal = x .refusal ∙ sym (y .refusal);
           sent = x .sent ∙ sym (y .sent);
-          next = ap (λ (m : Meter). hidden ch (view m)) (x .next) ∙ ap (hidden ch) views-same ∙ sym (ap (λ (m : Meter). hidden ch (view m)) (y .next));
+          next = ap (unchosen ch) (x .next) ∙ ap (hidden ch) views-same ∙ sym (ap (unchosen ch) (y .next));
         };
         next = ap (hidden ch) views-same;
         status = x .stores .status ∙ sym (y .stores .status);

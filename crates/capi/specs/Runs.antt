@@ -22,7 +22,7 @@ use Rattle.capi.specs.Promises.{FrameCalled}
 
 -- Alike.
 
--- the record of a register, its four last bytes being the value: zeros for them where the register is chosen
+-- the record of a register, thirteen bytes: name (6), right, scaler, unit, value (4); zeros for the value where the register is chosen
 abbrev pub hiddenRecord : Chosen → List ℕ → List ℕ
 hiddenRecord ch s = take 9 s ++ cond (ch (record { bytes = take 6 s })) (replicate 4 0) (take 4 (drop 9 s))
 

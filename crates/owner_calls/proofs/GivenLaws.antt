@@ -1,11 +1,11 @@
 -- Lists that are lent: the array and the count that a meter is given stand for the list that is lent. Where the list is longer than
 -- the array, both lists have too many members, and the call refuses both alike.
-use mathlib.Core.Path.{_≡_, refl, sym, subst, ap, _∙_}
-use mathlib.Core.Bool.{true, false, _&&_, and-false}
+use mathlib.Core.Path.{_≡_, subst, _∙_}
+use mathlib.Core.Bool.{false, and-false}
 use mathlib.Core.List.{List}
 use Prim.Native.Nat.{ℕ, _/_, _<_}
 use native.Mathlib.Omega.{arith}
-use lib.ListN.{length, take}
+use lib.ListN.{length}
 use borrow.Author.Tests.{lt-leb}
 use Rattle.wire.proofs.ReadingLaws.{by-order}
 use Rattle.model.specs.declared.Name.{Name}
@@ -22,6 +22,7 @@ use Rattle.meter.specs.declared.Meter.{Meter}
 use Rattle.meter.specs.declared.Changed.{Changed}
 use Rattle.meter.specs.View.{view}
 use Rattle.meter.specs.Promise.{Owned, handed}
+use Rattle.image.specs.Codec.{Codec}
 use Rattle.image.specs.Layout.{namePart, registerPart}
 use Rattle.image.specs.Lists.{listIn, Begins}
 use Rattle.image.proofs.ListLaws.{length-list, begun}
@@ -32,41 +33,36 @@ same-owned : {c d : OwnerCall} {m : Meter} {r : Changed} → ((p : Protocol) →
 same-owned {r = r} e o =
     record { promised = λ p. subst (λ (x : Outcome). Gave Meter view x (handed r)) (e p) (o .promised p); kept = o .kept }
 
+-- A list by its part, where two lists that have too many members for the array are refused alike.
+module _ {A : Type 0} (part : Codec A) {z : ℕ} (q : part .size ≡ z) (blank : A) (call : List A → OwnerCall) (places : ℕ) {m : Meter}
+    (alike : (p : Protocol) (xs ys : List A) → places < length xs → places < length ys → step p (owner (call xs)) (view m) ≡ step p (owner (call ys)) (view m)) where
+  given : (s : List ℕ) {xs : List A} {r : Changed} → Begins part places s xs → Owned (call (held blank (length s / z) xs)) m r → Owned (call (listIn part s)) m r
+  given s {xs} {r} b o =
+      let n = length s / z in
+      by-order n places
+      (λ h. subst (λ (l : List A). Owned (call l) m r) (held-take blank n xs (omega (arith, b .full)) ∙ begun part q s b h) o)
+      (λ h. same-owned (λ p. alike p (held blank n xs) (listIn part s) (omega (arith, held-length blank n xs)) (omega (arith, length-list part q s))) o)
+
 -- Registers.
 
-too-many-registers : (xs : List Register) → 16 < length xs → acceptedRegisters xs ≡ false
-unfolding acceptedRegisters maxRegisters
-too-many-registers xs h = rw (lt-leb (length xs) 16 h)
+registers-refused : (p : Protocol) (m : Model) (xs ys : List Register) → maxRegisters < length xs → maxRegisters < length ys → step p (owner (giveRegisters xs)) m ≡ step p (owner (giveRegisters ys)) m
+unfolding step act acceptedRegisters
+registers-refused p m xs ys h k = rw (lt-leb (length xs) maxRegisters h, lt-leb (length ys) maxRegisters k)
 
-refused-alike : (p : Protocol) (m : Model) (xs ys : List Register) → 16 < length xs → 16 < length ys → step p (owner (giveRegisters xs)) m ≡ step p (owner (giveRegisters ys)) m
-unfolding step act
-refused-alike p m xs ys h k = rw (too-many-registers xs h, too-many-registers ys k)
-
-module _ {s : List ℕ} {xs : List Register} {m : Meter} {r : Changed} (b : Begins registerPart 16 s xs) where
-  pub registers-given : Owned (giveRegisters (held blankRegister (length s / 13) xs)) m r → Owned (giveRegisters (listIn registerPart s)) m r
-  registers-given o =
-      let n = length s / 13 in
-      let q = sizes .register-size in
-      by-order n 16
-      (λ h. subst (λ (l : List Register). Owned (giveRegisters l) m r) (held-take blankRegister n xs (omega (arith, b .full)) ∙ begun registerPart q s b h) o)
-      (λ h. same-owned (λ p. refused-alike p (view m) (held blankRegister n xs) (listIn registerPart s) (omega (arith, held-length blankRegister n xs)) (omega (arith, length-list registerPart q s))) o)
+pub registers-given : {s : List ℕ} {xs : List Register} {m : Meter} {r : Changed} → Begins registerPart 16 s xs
+    → Owned (giveRegisters (held blankRegister (length s / 13) xs)) m r
+    → Owned (giveRegisters (listIn registerPart s)) m r
+unfolding maxRegisters
+registers-given {s} {m = m} = given registerPart (sizes .register-size) blankRegister giveRegisters maxRegisters (λ p. registers-refused p (view m)) s
 
 -- Columns.
 
-too-many-columns : (rs : List Register) (xs : List Name) → 16 < length xs → acceptedColumns rs xs ≡ false
-unfolding acceptedColumns maxColumns
-too-many-columns rs xs h = rw (lt-leb (length xs) 16 h, and-false)
+columns-refused : (p : Protocol) (m : Model) (xs ys : List Name) → maxColumns < length xs → maxColumns < length ys → step p (owner (setColumns xs)) m ≡ step p (owner (setColumns ys)) m
+unfolding step act acceptedColumns
+columns-refused p m xs ys h k = rw (lt-leb (length xs) maxColumns h, lt-leb (length ys) maxColumns k, and-false, and-false)
 
-columns-refused-alike : (p : Protocol) (m : Model) (xs ys : List Name) → 16 < length xs → 16 < length ys → step p (owner (setColumns xs)) m ≡ step p (owner (setColumns ys)) m
-unfolding step act
-columns-refused-alike p m xs ys h k =
-    rw (too-many-columns (m .body .store .registers) xs h, too-many-columns (m .body .store .registers) ys k)
-
-module _ {s : List ℕ} {xs : List Name} {m : Meter} {r : Changed} (b : Begins namePart 16 s xs) where
-  pub columns-given : Owned (setColumns (held blankName (length s / 6) xs)) m r → Owned (setColumns (listIn namePart s)) m r
-  columns-given o =
-      let n = length s / 6 in
-      let q = sizes .name-size in
-      by-order n 16
-      (λ h. subst (λ (l : List Name). Owned (setColumns l) m r) (held-take blankName n xs (omega (arith, b .full)) ∙ begun namePart q s b h) o)
-      (λ h. same-owned (λ p. columns-refused-alike p (view m) (held blankName n xs) (listIn namePart s) (omega (arith, held-length blankName n xs)) (omega (arith, length-list namePart q s))) o)
+pub columns-given : {s : List ℕ} {xs : List Name} {m : Meter} {r : Changed} → Begins namePart 16 s xs
+    → Owned (setColumns (held blankName (length s / 6) xs)) m r
+    → Owned (setColumns (listIn namePart s)) m r
+unfolding maxColumns
+columns-given {s} {m = m} = given namePart (sizes .name-size) blankName setColumns maxColumns (λ p. columns-refused p (view m)) s
