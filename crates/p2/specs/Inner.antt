@@ -9,6 +9,7 @@ use Rattle.wire.specs.Reading.{filled}
 use Rattle.model.specs.declared.Client.{Client}
 use Rattle.model.specs.Periods.{listed}
 use Rattle.model.specs.State.{Line}
+use Rattle.model.specs.Soundness.{sound}
 use Rattle.model.specs.Calls.{decided}
 use Rattle.model.specs.Demand3.{Gave}
 use Rattle.hdlc.specs.declared.Head.{Head}
@@ -28,6 +29,7 @@ use Rattle.protocol.specs.Clients.{peer, lentKeys, dedicatedKeys}
 use Rattle.protocol.specs.Rulings.{Test, refusalOf, Ruling, says, apdu, decision}
 use Rattle.protocol.specs.Decide.{p2}
 use Rattle.protocol.specs.Outcomes.{keeping}
+use Rattle.replies.specs.Room.{HasRoom}
 use Rattle.p2.specs.declared.Received.{Received}
 use Rattle.p2.specs.declared.Told.{Told}
 use Rattle.p2.specs.Promise.{handed, LeavesNothing}
@@ -46,6 +48,10 @@ told n k l = record { refusal = n; count = k; line = l }
 
 abbrev pub meterWith : LineState → BodyState → Meter
 meterWith l b = record { line = l; body = b }
+
+-- what a function within the call may take for granted: a sound meter, and a buffer with reply room
+abbrev pub Ready : Meter → (out : List ℕ) → Type 0
+Ready m out = (sound (view m) ≡ true) × HasRoom out
 
 -- the tag byte of a request in its envelope: D0 for GET, D3 for ACTION. It is asked for of these two alone, and is then the tag
 -- that the ruling has: `request-ruled` of proofs/Requests. The other clauses say nothing of a frame.

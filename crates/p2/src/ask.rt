@@ -18,26 +18,21 @@ use protocol::Secrets;
 use replies::APDU_AT;
 use replies::TEXT_AT;
 ghost use mathlib.Core.Path.{_≡_};
-ghost use mathlib.Core.Bool.{true};
 ghost use mathlib.Core.List.{List};
-ghost use Prim.Native.Nat.{ℕ, _<_, _≤_};
-ghost use lib.ListN.{length};
-ghost use Rattle.model.specs.Limits.{longestSent, replyRoom};
-ghost use Rattle.model.specs.Soundness.{sound};
+ghost use Prim.Native.Nat.{ℕ, _<_};
 ghost use Rattle.model.specs.State.{none};
 ghost use Rattle.model.specs.declared.Client.the-variants.{Han};
 ghost use Rattle.cosem.specs.Requests.{readGet, requested};
 ghost use Rattle.line.specs.View.{lineOf};
-ghost use Rattle.meter.specs.View.{view};
 ghost use Rattle.protocol.specs.declared.Secrets.{Secrets as Lender};
 ghost use Rattle.protocol.specs.Clients.{associates, selectiveIn};
 ghost use Rattle.protocol.specs.Rulings.{asks, nothing, outsideWindow, says};
 ghost use Rattle.protocol.specs.Decide.{accepted, advanced, asked, askedInside, readInside, requestEnclosed, wrap};
-ghost use Rattle.p2.specs.Inner.{Follows, FollowsUnder, Tells};
+ghost use Rattle.p2.specs.Inner.{Follows, FollowsUnder, Ready, Tells};
 
 // A plain request. No key has a part in it.
 pub fn ask_plain(meter: Meter, client: Client, head: Head, apdu: &[u8], out: &mut [u8]) -> Received
-    requires { ⌜ (sound (view meter) ≡ true) × (replyRoom longestSent ≤ length (now out)) ⌝ }
+    requires { ⌜ Ready meter (now out) ⌝ }
     ensures { λ r. ⌜ ((a : Lender) → Follows (asked (lineOf (meter .line)) a client head (now (apdu .entry)) (readGet (now (apdu .entry)))) meter (now (out .entry)) (now (out .exit)) r) ⌝ }
 {
     let line = meter.line;
@@ -57,7 +52,7 @@ fn answer_plain(
     request: Asked,
     out: &mut [u8],
 ) -> Received
-    requires { ⌜ (sound (view meter) ≡ true) × (replyRoom longestSent ≤ length (now out)) ⌝ }
+    requires { ⌜ Ready meter (now out) ⌝ }
     ensures { λ r. ⌜ ((ak : List ℕ) → Follows (asks (requested client (selectiveIn client (lineOf (meter .line))) (now (apdu .entry)) request) (wrap ak head 0xC0) (lineOf (meter .line))) meter (now (out .entry)) (now (out .exit)) r) ⌝ }
 {
     let line = meter.line;
@@ -84,7 +79,7 @@ pub fn ask_enclosed(
     apdu: &[u8],
     out: &mut [u8],
 ) -> Received
-    requires { ⌜ (sound (view meter) ≡ true) × (0xC0 < tag) × (tag < 0xFC) × (replyRoom longestSent ≤ length (now out)) ⌝ }
+    requires { ⌜ (Ready meter (now out)) × (0xC0 < tag) × (tag < 0xFC) ⌝ }
     ensures { λ r. ⌜ Follows (requestEnclosed (lineOf (meter .line)) secrets head tag (now (apdu .entry))) meter (now (out .entry)) (now (out .exit)) r ⌝ }
 {
     let line = meter.line;
@@ -134,7 +129,7 @@ fn ask_inside(
     text: &[u8],
     out: &mut [u8],
 ) -> Received
-    requires { ⌜ (sound (view meter) ≡ true) × (0xC0 < tag) × (tag < 0xFC) × (replyRoom longestSent ≤ length (now out)) ⌝ }
+    requires { ⌜ (Ready meter (now out)) × (0xC0 < tag) × (tag < 0xFC) ⌝ }
     ensures { λ r. ⌜ FollowsUnder keys (λ a. askedInside (lineOf (meter .line)) a head tag counter (now (text .entry)) (readInside tag (now (text .entry)))) meter (now (out .entry)) (now (out .exit)) r ⌝ }
 {
     let reading = read_inside(tag, text);
@@ -171,7 +166,7 @@ fn answer_enclosed(
     request: Asked,
     out: &mut [u8],
 ) -> Received
-    requires { ⌜ (sound (view meter) ≡ true) × (0xC0 < tag) × (tag < 0xFC) × (replyRoom longestSent ≤ length (now out)) ⌝ }
+    requires { ⌜ (Ready meter (now out)) × (0xC0 < tag) × (tag < 0xFC) ⌝ }
     ensures { λ r. ⌜ FollowsUnder keys (λ a. asks (requested Han (selectiveIn Han (lineOf (meter .line))) (now (text .entry)) request) (wrap (a .ak) head tag) (advanced (accepted counter (lineOf (meter .line))))) meter (now (out .entry)) (now (out .exit)) r ⌝ }
 {
     let line = meter.line;

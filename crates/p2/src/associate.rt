@@ -10,10 +10,8 @@ use line::LineState;
 use model::Client;
 use protocol::Secrets;
 ghost use mathlib.Core.Path.{_≡_};
-ghost use Prim.Native.Nat.{_≤_};
-ghost use lib.ListN.{length, replicate};
+ghost use lib.ListN.{replicate};
 ghost use Rattle.wire.specs.Reading.{filled};
-ghost use Rattle.model.specs.Limits.{longestSent, replyRoom};
 ghost use Rattle.model.specs.declared.Client.the-variants.{Han};
 ghost use Rattle.acse.specs.Aarq.{readAarq};
 ghost use Rattle.acse.specs.Initiate.{readRequest};
@@ -22,6 +20,7 @@ ghost use Rattle.line.specs.View.{lineOf};
 ghost use Rattle.protocol.specs.Clients.{lentKeys, peer};
 ghost use Rattle.protocol.specs.Rulings.{refusedAarq};
 ghost use Rattle.protocol.specs.Decide.{acceptedCiphered, acceptedPlain, associating, enclosed, initiated};
+ghost use Rattle.replies.specs.Room.{HasRoom};
 ghost use Rattle.p2.specs.Inner.{Tells, TellsWith};
 
 // An AARQ.
@@ -33,7 +32,7 @@ pub fn associate(
     apdu: &[u8],
     out: &mut [u8],
 ) -> Told
-    requires { ⌜ replyRoom longestSent ≤ length (now out) ⌝ }
+    requires { ⌜ HasRoom (now out) ⌝ }
     ensures { λ r. ⌜ Tells (associating (lineOf line) secrets client head (now (apdu .entry)) (readAarq (now (apdu .entry)) client (peer client (lineOf line) .title))) line (now (out .entry)) (now (out .exit)) r ⌝ }
 {
     let title = association::title_of(line, client);
@@ -56,7 +55,7 @@ pub fn associate(
 
 // The AARE that does not accept.
 fn reject_aarq(line: LineState, client: Client, head: Head, out: &mut [u8]) -> Told
-    requires { ⌜ replyRoom longestSent ≤ length (now out) ⌝ }
+    requires { ⌜ HasRoom (now out) ⌝ }
     ensures { λ r. ⌜ Tells (refusedAarq client head (lineOf line)) line (now (out .entry)) (now (out .exit)) r ⌝ }
 {
     let count = replies::send_rejected(out, head, client);
@@ -69,7 +68,7 @@ fn reject_aarq(line: LineState, client: Client, head: Head, out: &mut [u8]) -> T
 
 // V is associated.
 fn accept_plain(line: LineState, head: Head, proposed: [u8; 3], out: &mut [u8]) -> Told
-    requires { ⌜ replyRoom longestSent ≤ length (now out) ⌝ }
+    requires { ⌜ HasRoom (now out) ⌝ }
     ensures { λ r. ⌜ Tells (acceptedPlain (lineOf line) head proposed) line (now (out .entry)) (now (out .exit)) r ⌝ }
 {
     let title = line.title;
@@ -92,7 +91,7 @@ fn open_request(
     envelope: &[u8],
     out: &mut [u8],
 ) -> Told
-    requires { ⌜ replyRoom longestSent ≤ length (now out) ⌝ }
+    requires { ⌜ HasRoom (now out) ⌝ }
     ensures { λ r. ⌜ Tells (enclosed (lineOf line) secrets head challenge (opened (lentKeys secrets) (lineOf line .han .peer .title) 0x21 (now (envelope .entry)))) line (now (out .entry)) (now (out .exit)) r ⌝ }
 {
     let keys = association::lent_keys(secrets);
@@ -130,7 +129,7 @@ fn initiate(
     counter: u32,
     out: &mut [u8],
 ) -> Told
-    requires { ⌜ replyRoom longestSent ≤ length (now out) ⌝ }
+    requires { ⌜ HasRoom (now out) ⌝ }
     ensures { λ r. ⌜ TellsWith keys secrets (initiated (lineOf line) secrets head challenge (now (text .entry)) counter (readRequest (now (text .entry)))) line (now (out .entry)) (now (out .exit)) r ⌝ }
 {
     let request = acse::read_request(text);
@@ -166,7 +165,7 @@ fn accept_ciphered(
     counter: u32,
     out: &mut [u8],
 ) -> Told
-    requires { ⌜ replyRoom longestSent ≤ length (now out) ⌝ }
+    requires { ⌜ HasRoom (now out) ⌝ }
     ensures { λ r. ⌜ TellsWith keys secrets (acceptedCiphered (lineOf line) secrets head challenge key proposed counter) line (now (out .entry)) (now (out .exit)) r ⌝ }
 {
     let title = line.title;

@@ -17,15 +17,13 @@ use model::Client;
 use model::Name;
 use protocol::Secrets;
 ghost use mathlib.Core.Path.{_≡_};
-ghost use Prim.Native.Nat.{_≤_};
-ghost use lib.ListN.{length};
-ghost use Rattle.model.specs.Limits.{longestSent, replyRoom};
 ghost use Rattle.cosem.specs.Requests.{readAction};
 ghost use Rattle.envelope.specs.Layout.{keysOf};
 ghost use Rattle.envelope.specs.Challenge.{rightProof};
 ghost use Rattle.line.specs.View.{lineOf};
 ghost use Rattle.protocol.specs.Clients.{meterChallenge};
 ghost use Rattle.protocol.specs.Decide.{answeredChallenge, challenged, challengeEnclosed, disproved, isChallenge, onFirstMethod, proofIn, proved};
+ghost use Rattle.replies.specs.Room.{HasRoom};
 ghost use Rattle.p2.specs.Inner.{Tells, TellsUnder};
 
 // An envelope with the tag of the challenge's answer.
@@ -36,7 +34,7 @@ pub fn hear_challenge(
     apdu: &[u8],
     out: &mut [u8],
 ) -> Told
-    requires { ⌜ replyRoom longestSent ≤ length (now out) ⌝ }
+    requires { ⌜ HasRoom (now out) ⌝ }
     ensures { λ r. ⌜ Tells (challengeEnclosed (lineOf line) secrets head (now (apdu .entry))) line (now (out .entry)) (now (out .exit)) r ⌝ }
 {
     let han = line.han;
@@ -62,7 +60,7 @@ fn answer_challenge(
     text: &[u8],
     out: &mut [u8],
 ) -> Told
-    requires { ⌜ replyRoom longestSent ≤ length (now out) ⌝ }
+    requires { ⌜ HasRoom (now out) ⌝ }
     ensures { λ r. ⌜ TellsUnder keys (λ a. answeredChallenge (lineOf line) a head counter (now (text .entry)) (readAction (now (text .entry)))) line (now (out .entry)) (now (out .exit)) r ⌝ }
 {
     let reading = cosem::read_action(text);
@@ -85,7 +83,7 @@ fn judge(
     request: Asked,
     out: &mut [u8],
 ) -> Told
-    requires { ⌜ replyRoom longestSent ≤ length (now out) ⌝ }
+    requires { ⌜ HasRoom (now out) ⌝ }
     ensures { λ r. ⌜ TellsUnder keys (λ a. challenged (lineOf line) a head counter (now (text .entry)) request) line (now (out .entry)) (now (out .exit)) r ⌝ }
 {
     if !is_challenge(text, request) {
@@ -176,7 +174,7 @@ fn prove(
     counter: u32,
     out: &mut [u8],
 ) -> Told
-    requires { ⌜ replyRoom longestSent ≤ length (now out) ⌝ }
+    requires { ⌜ HasRoom (now out) ⌝ }
     ensures { λ r. ⌜ TellsUnder keys (λ a. proved (lineOf line) a head invoke counter) line (now (out .entry)) (now (out .exit)) r ⌝ }
 {
     let title = line.title;
@@ -212,7 +210,7 @@ fn disprove(
     counter: u32,
     out: &mut [u8],
 ) -> Told
-    requires { ⌜ replyRoom longestSent ≤ length (now out) ⌝ }
+    requires { ⌜ HasRoom (now out) ⌝ }
     ensures { λ r. ⌜ TellsUnder keys (λ a. disproved (lineOf line) a head invoke counter) line (now (out .entry)) (now (out .exit)) r ⌝ }
 {
     let title = line.title;

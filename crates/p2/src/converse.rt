@@ -16,16 +16,11 @@ use meter::Meter;
 use model::Client;
 use protocol::Secrets;
 ghost use mathlib.Core.Path.{_≡_};
-ghost use mathlib.Core.Bool.{true};
-ghost use Prim.Native.Nat.{_≤_};
-ghost use lib.ListN.{length};
-ghost use Rattle.model.specs.Limits.{longestSent, replyRoom};
-ghost use Rattle.model.specs.Soundness.{sound};
 ghost use Rattle.cosem.specs.Tags.{tagIn};
 ghost use Rattle.line.specs.View.{lineOf};
-ghost use Rattle.meter.specs.View.{view};
 ghost use Rattle.protocol.specs.Decide.{byTag, carried, conversed, released};
-ghost use Rattle.p2.specs.Inner.{Follows, requestByte, Tells};
+ghost use Rattle.replies.specs.Room.{HasRoom};
+ghost use Rattle.p2.specs.Inner.{Follows, Ready, requestByte, Tells};
 
 // An APDU.
 pub fn carry(
@@ -36,7 +31,7 @@ pub fn carry(
     apdu: &[u8],
     out: &mut [u8],
 ) -> Received
-    requires { ⌜ (sound (view meter) ≡ true) × (replyRoom longestSent ≤ length (now out)) ⌝ }
+    requires { ⌜ Ready meter (now out) ⌝ }
     ensures { λ r. ⌜ Follows (carried (lineOf (meter .line)) secrets client head (now (apdu .entry))) meter (now (out .entry)) (now (out .exit)) r ⌝ }
 {
     let line = meter.line;
@@ -55,7 +50,7 @@ fn converse(
     apdu: &[u8],
     out: &mut [u8],
 ) -> Received
-    requires { ⌜ (sound (view meter) ≡ true) × (replyRoom longestSent ≤ length (now out)) ⌝ }
+    requires { ⌜ Ready meter (now out) ⌝ }
     ensures { λ r. ⌜ Follows (conversed (lineOf (meter .line)) secrets client head (now (apdu .entry)) (tagIn (now (apdu .entry)))) meter (now (out .entry)) (now (out .exit)) r ⌝ }
 {
     let line = meter.line;
@@ -82,7 +77,7 @@ fn by_tag(
     tag: Tag,
     out: &mut [u8],
 ) -> Received
-    requires { ⌜ (sound (view meter) ≡ true) × (replyRoom longestSent ≤ length (now out)) ⌝ }
+    requires { ⌜ Ready meter (now out) ⌝ }
     ensures { λ r. ⌜ Follows (byTag (lineOf (meter .line)) secrets client head (now (apdu .entry)) tag) meter (now (out .entry)) (now (out .exit)) r ⌝ }
 {
     let line = meter.line;
@@ -121,7 +116,7 @@ fn request_byte(tag: Tag) -> u8
 
 // RLRQ: the association ends.
 fn release(line: LineState, client: Client, head: Head, apdu: &[u8], out: &mut [u8]) -> Told
-    requires { ⌜ replyRoom longestSent ≤ length (now out) ⌝ }
+    requires { ⌜ HasRoom (now out) ⌝ }
     ensures { λ r. ⌜ Tells (released (lineOf line) client head (now (apdu .entry))) line (now (out .entry)) (now (out .exit)) r ⌝ }
 {
     if !cosem::is_release(apdu) {

@@ -6,9 +6,7 @@ use hdlc::Head;
 use line::LineState;
 use meter::Meter;
 ghost use mathlib.Core.Path.{_≡_};
-ghost use Prim.Native.Nat.{_≤_};
-ghost use lib.ListN.{length};
-ghost use Rattle.model.specs.Limits.{longestSent, replyRoom};
+ghost use Rattle.replies.specs.Room.{HasRoom};
 ghost use Rattle.p2.specs.Inner.{Excepts, meterWith, received, told};
 
 // Nothing goes out, and the line is as it was.
@@ -24,7 +22,7 @@ pub fn kept(refusal: u8, line: LineState) -> Told
 
 // An exception, and the line becomes this one, with the same associations as before.
 pub fn except(line: LineState, head: Head, e: Exception, out: &mut [u8]) -> Told
-    requires { ⌜ replyRoom longestSent ≤ length (now out) ⌝ }
+    requires { ⌜ HasRoom (now out) ⌝ }
     ensures { λ r. ⌜ Excepts e head line (now (out .entry)) (now (out .exit)) r ⌝ }
 {
     let count = replies::send_exception(out, head, e);

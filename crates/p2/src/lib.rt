@@ -14,19 +14,15 @@ use line::LineState;
 use meter::Meter;
 use protocol::Secrets;
 ghost use mathlib.Core.Path.{_≡_};
-ghost use mathlib.Core.Bool.{true};
 ghost use mathlib.Core.List.{[]};
-ghost use Prim.Native.Nat.{_≤_};
 ghost use lib.ListN.{length};
-ghost use Rattle.model.specs.Limits.{longestSent, replyRoom};
 ghost use Rattle.model.specs.Soundness.{sound};
 ghost use Rattle.model.specs.Calls.{lentRefusal};
 ghost use Rattle.hdlc.specs.Reading.{readFrame};
 ghost use Rattle.line.specs.View.{lineOf};
-ghost use Rattle.meter.specs.View.{view};
 ghost use Rattle.protocol.specs.Decide.{heard};
 ghost use Rattle.p2.specs.Promise.{Answered, lent};
-ghost use Rattle.p2.specs.Inner.{Follows, received, secretsIn};
+ghost use Rattle.p2.specs.Inner.{Follows, Ready, received, secretsIn};
 
 // The reply room that a call asks for.
 const REPLY_ROOM: usize = 779;
@@ -116,7 +112,7 @@ fn secrets_of(guk: &[u8], ak: &[u8], challenge: &[u8]) -> Secrets
 
 // A frame, on a sound meter, with enough room and keys of the right lengths.
 fn hear(meter: Meter, secrets: Secrets, frame: &[u8], out: &mut [u8]) -> Received
-    requires { ⌜ (sound (view meter) ≡ true) × (replyRoom longestSent ≤ length (now out)) ⌝ }
+    requires { ⌜ Ready meter (now out) ⌝ }
     ensures { λ r. ⌜ Follows (heard (lineOf (meter .line)) secrets (now (frame .entry)) (readFrame (now (frame .entry)))) meter (now (out .entry)) (now (out .exit)) r ⌝ }
 {
     let line = meter.line;

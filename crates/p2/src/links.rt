@@ -5,17 +5,15 @@ use hdlc::Head;
 use line::LineState;
 use model::Client;
 ghost use mathlib.Core.Path.{_≡_};
-ghost use Prim.Native.Nat.{_≤_};
-ghost use lib.ListN.{length};
-ghost use Rattle.model.specs.Limits.{longestSent, replyRoom};
 ghost use Rattle.line.specs.View.{lineOf};
 ghost use Rattle.protocol.specs.Rulings.{Test, dm, frame, refusalOf, reject as frmr, says};
 ghost use Rattle.protocol.specs.Decide.{linkDown, linkUp};
+ghost use Rattle.replies.specs.Room.{HasRoom};
 ghost use Rattle.p2.specs.Inner.{Tells};
 
 // FRMR.
 pub fn reject(line: LineState, head: Head, test: FrameTest, out: &mut [u8]) -> Told
-    requires { ⌜ replyRoom longestSent ≤ length (now out) ⌝ }
+    requires { ⌜ HasRoom (now out) ⌝ }
     ensures { λ r. ⌜ Tells (says (frame test) (frmr head test) (lineOf line)) line (now (out .entry)) (now (out .exit)) r ⌝ }
 {
     let count = hdlc_write::put_frmr(out, head, test);
@@ -28,7 +26,7 @@ pub fn reject(line: LineState, head: Head, test: FrameTest, out: &mut [u8]) -> T
 
 // DM: a link is not possible, or down.
 pub fn refuse(line: LineState, head: Head, out: &mut [u8]) -> Told
-    requires { ⌜ replyRoom longestSent ≤ length (now out) ⌝ }
+    requires { ⌜ HasRoom (now out) ⌝ }
     ensures { λ r. ⌜ ((t : Test) → refusalOf t ≡ 10 → Tells (says t (dm head) (lineOf line)) line (now (out .entry)) (now (out .exit)) r) ⌝ }
 {
     let count = hdlc_write::put_dm(out, head);
@@ -47,7 +45,7 @@ pub fn link_up(
     information: bool,
     out: &mut [u8],
 ) -> Told
-    requires { ⌜ replyRoom longestSent ≤ length (now out) ⌝ }
+    requires { ⌜ HasRoom (now out) ⌝ }
     ensures { λ r. ⌜ Tells (linkUp (lineOf line) client head information) line (now (out .entry)) (now (out .exit)) r ⌝ }
 {
     if information {
@@ -67,7 +65,7 @@ pub fn link_up(
 
 // A link is to go down.
 pub fn link_down(line: LineState, client: Client, head: Head, out: &mut [u8]) -> Told
-    requires { ⌜ replyRoom longestSent ≤ length (now out) ⌝ }
+    requires { ⌜ HasRoom (now out) ⌝ }
     ensures { λ r. ⌜ Tells (linkDown (lineOf line) client head) line (now (out .entry)) (now (out .exit)) r ⌝ }
 {
     if !association::is_up(line, client) {

@@ -6,14 +6,15 @@ use hdlc::Head;
 use model::Client;
 ghost use mathlib.Core.List.{_++_};
 ghost use Prim.Native.Nat.{_+_, _≤_};
-ghost use lib.ListN.{drop, length, take};
-ghost use Rattle.model.specs.Limits.{longestSent, replyRoom, textRoom};
+ghost use lib.ListN.{drop, take};
+ghost use Rattle.model.specs.Limits.{longestSent, textRoom};
 ghost use Rattle.model.specs.Objects.{actionAnswer, denied};
 ghost use Rattle.hdlc.specs.Replies.{apduFrame, Sent};
 ghost use Rattle.acse.specs.Aare.{cipheredAareHead};
 ghost use Rattle.acse.specs.Initiate.{initiateResponse};
 ghost use Rattle.envelope.specs.Layout.{headSize, keysOf, sealedEnvelope};
 ghost use Rattle.protocol.specs.Decide.{provedText};
+ghost use Rattle.replies.specs.Room.{HasRoom};
 
 // How many bytes each text has that is not the caller's: an initiate response, an answer with a proof, one that denies.
 const RESPONSE_SIZE: usize = 14;
@@ -33,7 +34,7 @@ pub fn send_accepted_ciphered(
     agreed: [u8; 3],
     counter: u32,
 ) -> usize
-    requires { ⌜ replyRoom longestSent ≤ length (now out) ⌝ }
+    requires { ⌜ HasRoom (now out) ⌝ }
     ensures { λ r. ⌜ Sent (apduFrame head (cipheredAareHead client title challenge ++ sealedEnvelope (keysOf keys) title 0x28 counter (initiateResponse agreed))) (now (out .entry)) (now (out .exit)) r ⌝ }
 {
     let at = hdlc_write::put_llc(out);
@@ -56,7 +57,7 @@ pub fn send_proof(
     first: u32,
     second: u32,
 ) -> usize
-    requires { ⌜ replyRoom longestSent ≤ length (now out) ⌝ }
+    requires { ⌜ HasRoom (now out) ⌝ }
     ensures { λ r. ⌜ Sent (apduFrame head (sealedEnvelope (keysOf keys) title 0xCF second (provedText (keysOf keys) title challenge invoke first))) (now (out .entry)) (now (out .exit)) r ⌝ }
 {
     let text = APDU_AT + envelope::head_size(PROVED_SIZE);
@@ -75,7 +76,7 @@ pub fn send_denial(
     code: u8,
     counter: u32,
 ) -> usize
-    requires { ⌜ replyRoom longestSent ≤ length (now out) ⌝ }
+    requires { ⌜ HasRoom (now out) ⌝ }
     ensures { λ r. ⌜ Sent (apduFrame head (sealedEnvelope (keysOf keys) title 0xCF counter (actionAnswer invoke (denied code)))) (now (out .entry)) (now (out .exit)) r ⌝ }
 {
     let text = APDU_AT + envelope::head_size(DENIED_SIZE);
@@ -94,7 +95,7 @@ pub fn send_enclosed(
     counter: u32,
     n: usize,
 ) -> usize
-    requires { ⌜ (replyRoom longestSent ≤ length (now out)) × (n ≤ textRoom longestSent) ⌝ }
+    requires { ⌜ (HasRoom (now out)) × (n ≤ textRoom longestSent) ⌝ }
     ensures { λ r. ⌜ Sent (apduFrame head (sealedEnvelope (keysOf keys) title tag counter (take n (drop 20 (now (out .entry)))))) (now (out .entry)) (now (out .exit)) r ⌝ }
 {
     let text = APDU_AT + envelope::head_size(n);
@@ -112,7 +113,7 @@ fn close_and_send(
     counter: u32,
     n: usize,
 ) -> usize
-    requires { ⌜ (replyRoom longestSent ≤ length (now out)) × (n ≤ textRoom longestSent) ⌝ }
+    requires { ⌜ (HasRoom (now out)) × (n ≤ textRoom longestSent) ⌝ }
     ensures { λ r. ⌜ Sent (apduFrame head (sealedEnvelope (keysOf keys) title tag counter (take n (drop (11 + headSize n) (now (out .entry)))))) (now (out .entry)) (now (out .exit)) r ⌝ }
 {
     let at = hdlc_write::put_llc(out);

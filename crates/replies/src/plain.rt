@@ -4,15 +4,16 @@ use cosem::Exception;
 use hdlc::Head;
 use model::Client;
 ghost use Prim.Native.Nat.{_≤_, _<_};
-ghost use lib.ListN.{drop, length, take};
-ghost use Rattle.model.specs.Limits.{longestSent, replyRoom, textRoom};
+ghost use lib.ListN.{drop, take};
+ghost use Rattle.model.specs.Limits.{longestSent, textRoom};
 ghost use Rattle.hdlc.specs.Replies.{apduFrame, Sent};
 ghost use Rattle.cosem.specs.Tags.{exceptionBytes, releaseResponse};
 ghost use Rattle.acse.specs.Aare.{plainAare, rejectedAare};
+ghost use Rattle.replies.specs.Room.{HasRoom};
 
 // An exception.
 pub fn send_exception(out: &mut [u8], head: Head, e: Exception) -> usize
-    requires { ⌜ replyRoom longestSent ≤ length (now out) ⌝ }
+    requires { ⌜ HasRoom (now out) ⌝ }
     ensures { λ r. ⌜ Sent (apduFrame head (exceptionBytes e)) (now (out .entry)) (now (out .exit)) r ⌝ }
 {
     let at = hdlc_write::put_llc(out);
@@ -22,7 +23,7 @@ pub fn send_exception(out: &mut [u8], head: Head, e: Exception) -> usize
 
 // The answer to a release.
 pub fn send_release(out: &mut [u8], head: Head) -> usize
-    requires { ⌜ replyRoom longestSent ≤ length (now out) ⌝ }
+    requires { ⌜ HasRoom (now out) ⌝ }
     ensures { λ r. ⌜ Sent (apduFrame head releaseResponse) (now (out .entry)) (now (out .exit)) r ⌝ }
 {
     let at = hdlc_write::put_llc(out);
@@ -32,7 +33,7 @@ pub fn send_release(out: &mut [u8], head: Head) -> usize
 
 // The AARE of an AARQ that is not accepted.
 pub fn send_rejected(out: &mut [u8], head: Head, client: Client) -> usize
-    requires { ⌜ replyRoom longestSent ≤ length (now out) ⌝ }
+    requires { ⌜ HasRoom (now out) ⌝ }
     ensures { λ r. ⌜ Sent (apduFrame head (rejectedAare client)) (now (out .entry)) (now (out .exit)) r ⌝ }
 {
     let at = hdlc_write::put_llc(out);
@@ -48,7 +49,7 @@ pub fn send_accepted_plain(
     title: [u8; 8],
     agreed: [u8; 3],
 ) -> usize
-    requires { ⌜ replyRoom longestSent ≤ length (now out) ⌝ }
+    requires { ⌜ HasRoom (now out) ⌝ }
     ensures { λ r. ⌜ Sent (apduFrame head (plainAare client title agreed)) (now (out .entry)) (now (out .exit)) r ⌝ }
 {
     let at = hdlc_write::put_llc(out);
@@ -58,7 +59,7 @@ pub fn send_accepted_plain(
 
 // The APDU of `n` bytes that stands in `out` at `APDU_AT`.
 pub fn send_plain(out: &mut [u8], head: Head, n: usize) -> usize
-    requires { ⌜ (replyRoom longestSent ≤ length (now out)) × (0 < n) × (n ≤ textRoom longestSent) ⌝ }
+    requires { ⌜ (HasRoom (now out)) × (0 < n) × (n ≤ textRoom longestSent) ⌝ }
     ensures { λ r. ⌜ Sent (apduFrame head (take n (drop 11 (now (out .entry))))) (now (out .entry)) (now (out .exit)) r ⌝ }
 {
     hdlc_write::put_llc(out);

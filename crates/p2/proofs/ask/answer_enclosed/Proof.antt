@@ -19,8 +19,8 @@ answer-requires : tie.Need-answer-requires
 answer-requires c κs =
     let s = c .before .before .before .before .before .before .before .before .before .before in
     let m = s .args .meter in (
-      both (bodySound (bodyOf (m .body))) (lineSound (lineOf (m .line))) (sym (sound-is m) ∙ s .pre .0) .0,
-      omega (arith, reply-room, text-room, s .pre .3),
+      both (bodySound (bodyOf (m .body))) (lineSound (lineOf (m .line))) (sym (sound-is m) ∙ s .pre .0 .0) .0,
+      omega (arith, reply-room, text-room, s .pre .0 .1),
     )
 
 add-send-enclosed : tie.Need-add-send-enclosed
@@ -32,7 +32,7 @@ send-enclosed-requires : tie.Need-send-enclosed-requires
 send-enclosed-requires c κs =
     let at-answer = c .before .before .before .before .before in
     let s = at-answer .before .before .before .before .before .before .before .before .before .before .before in
-    let t = at-answer .answer .ensures in (omega (arith, t .wrote .kept, s .pre .3), answer-short _ _ 20 t)
+    let t = at-answer .answer .ensures in (omega (arith, t .wrote .kept, s .pre .0 .1), answer-short _ _ 20 t)
 
 returns : tie.Need-returns
 unfolding lineOf taken

@@ -17,7 +17,7 @@ ask-enclosed-requires c κs =
     let at-match = at-request-byte .before in
     let s = at-match .before .before .before .before in
     let b = request-bounds (s .args .tag) (at-match .match .keys5) in
-    let e = at-request-byte .request-byte .ensures in (s .pre .0, rw e (b .0), rw e (b .1), s .pre .1)
+    let e = at-request-byte .request-byte .ensures in (s .pre, rw e (b .0), rw e (b .1))
 
 returns : tie.Need-returns
 returns c =
