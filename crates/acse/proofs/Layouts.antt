@@ -7,7 +7,8 @@ use native.Mathlib.Omega.{arith}
 use lib.ListN.{length, take, length-append}
 use Rattle.wire.specs.Numbers.{lengthField}
 use Rattle.model.specs.declared.Client.{Client}
-use Rattle.model.specs.declared.Client.the-variants.{Verification, Han}
+use Rattle.model.specs.declared.Client.the-variants.{Verification, Ciphering}
+use Rattle.model.specs.declared.CipherClient.the-variants.{Han}
 use Rattle.model.specs.Limits.{envelopeLength, longestReceived, toldSize}
 use Rattle.acse.specs.Clients.{contextName, mechanismName}
 use Rattle.acse.specs.Initiate.{plainRequest, keyedRequest, initiateResponse}
@@ -17,11 +18,11 @@ use Rattle.acse.proofs.LaidLaws.{layoutSize}
 
 pub length-context : (client : Client) → length (contextName client) ≡ 0x07
 length-context Verification = refl
-length-context Han = refl
+length-context (Ciphering Han) = refl
 
 pub length-mechanism : (client : Client) → length (mechanismName client) ≡ 0x07
 length-mechanism Verification = refl
-length-mechanism Han = refl
+length-mechanism (Ciphering Han) = refl
 
 -- Initiate request and response.
 

@@ -11,7 +11,8 @@ use lib.ListN.{length, getD, drop-of-length-le}
 use lib.Seq.{drop-cons}
 use borrow.Author.Tests.{eq-eqb}
 use Rattle.model.specs.declared.Client.{Client}
-use Rattle.model.specs.declared.Client.the-variants.{Verification, Han}
+use Rattle.model.specs.declared.Client.the-variants.{Verification, Ciphering}
+use Rattle.model.specs.declared.CipherClient.the-variants.{Han}
 use Rattle.model.specs.Services.{common, within, offered}
 
 -- a list of three is its three elements
@@ -30,7 +31,7 @@ common-three xs os h k = sym (ap₂ common (three xs h) (three os k))
 
 pub length-offered : (client : Client) → length (offered client) ≡ 3
 length-offered Verification = refl
-length-offered Han = refl
+length-offered (Ciphering Han) = refl
 
 -- agreed services are as many bytes as those offered
 pub length-common : (xs os : List ℕ) → length (common xs os) ≡ length os

@@ -4,7 +4,7 @@ use mathlib.Core.Bool.{Bool, true, false}
 use mathlib.Core.List.{List, [], _∷_}
 use Prim.Native.Nat.{ℕ}
 use Rattle.model.specs.declared.Client.{Client}
-use Rattle.model.specs.declared.Client.the-variants.{Verification, Han}
+use Rattle.model.specs.declared.Client.the-variants.{Verification, Ciphering}
 
 -- The object identifiers: logical names without and with ciphering; no security, and challenges answered by GMAC.
 
@@ -25,14 +25,14 @@ gmacSecurity = 0x60 ∷ 0x85 ∷ 0x74 ∷ 0x05 ∷ 0x08 ∷ 0x02 ∷ 0x05 ∷ []
 -- the client's initiate request and its answer are "enclosed" in envelopes, and challenges are exchanged
 abbrev pub ciphers : Client → Bool
 ciphers Verification = false
-ciphers Han = true
+ciphers (Ciphering c) = true
 
 -- "context name 60 85 74 05 08 01 01 for V, last byte 03 for H"
 abbrev pub contextName : Client → List ℕ
 contextName Verification = plainContext
-contextName Han = cipheredContext
+contextName (Ciphering c) = cipheredContext
 
 -- "mechanism name 60 85 74 05 08 02 00 for V, last byte 05 for H"
 abbrev pub mechanismName : Client → List ℕ
 mechanismName Verification = noSecurity
-mechanismName Han = gmacSecurity
+mechanismName (Ciphering c) = gmacSecurity

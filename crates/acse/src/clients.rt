@@ -1,7 +1,9 @@
 // What the messages have by client: whether it ciphers, its object identifiers, the services that it is offered. A further
-// client is one line more in each.
+// client that ciphers is one line more in the last.
+use model::CipherClient;
 use model::Client;
 ghost use mathlib.Core.Path.{_≡_};
+ghost use Rattle.model.specs.declared.Client.the-variants.{Ciphering};
 ghost use Rattle.model.specs.Services.{common, offered};
 ghost use Rattle.acse.specs.Clients.{«ciphers» as cipheringOf, contextName, mechanismName};
 
@@ -11,7 +13,7 @@ pub fn ciphers(client: Client) -> bool
 {
     match client {
         Client::Verification => false,
-        Client::Han => true,
+        Client::Ciphering(_) => true,
     }
 }
 
@@ -21,7 +23,7 @@ pub fn context_name(client: Client) -> [u8; 7]
 {
     match client {
         Client::Verification => *b"\x60\x85\x74\x05\x08\x01\x01",
-        Client::Han => *b"\x60\x85\x74\x05\x08\x01\x03",
+        Client::Ciphering(_) => *b"\x60\x85\x74\x05\x08\x01\x03",
     }
 }
 
@@ -31,7 +33,7 @@ pub fn mechanism_name(client: Client) -> [u8; 7]
 {
     match client {
         Client::Verification => *b"\x60\x85\x74\x05\x08\x02\x00",
-        Client::Han => *b"\x60\x85\x74\x05\x08\x02\x05",
+        Client::Ciphering(_) => *b"\x60\x85\x74\x05\x08\x02\x05",
     }
 }
 
@@ -41,7 +43,16 @@ fn offered_services(client: Client) -> [u8; 3]
 {
     match client {
         Client::Verification => *b"\x00\x00\x14",
-        Client::Han => *b"\x00\x00\x15",
+        Client::Ciphering(c) => offered_ciphering(c),
+    }
+}
+
+// Those of a client that ciphers.
+fn offered_ciphering(client: CipherClient) -> [u8; 3]
+    ensures { λ r. ⌜ r ≡ offered (Ciphering client) ⌝ }
+{
+    match client {
+        CipherClient::Han => *b"\x00\x00\x15",
     }
 }
 

@@ -2,22 +2,30 @@
 use mathlib.Core.List.{List, []}
 use Prim.Native.Nat.{ℕ}
 use Rattle.model.specs.declared.Client.{Client}
-use Rattle.model.specs.declared.Client.the-variants.{Verification, Han}
+use Rattle.model.specs.declared.CipherClient.{CipherClient}
+use Rattle.model.specs.declared.Client.the-variants.{Verification, Ciphering}
+use Rattle.model.specs.declared.CipherClient.the-variants.{Han}
 use Rattle.line.specs.declared.Party.{Party}
+use Rattle.line.specs.declared.CipherParty.{CipherParty}
 use Rattle.line.specs.declared.LineState.{LineState}
+use Rattle.line.specs.View.{cipherOf}
 
 abbrev pub partyOf : Client → LineState → Party
 partyOf Verification l = l .verification
-partyOf Han l = l .han .party
+partyOf (Ciphering c) l = cipherOf c l .party
 
 abbrev pub keyOf : Client → LineState → List ℕ
 keyOf Verification l = []
-keyOf Han l = l .han .key
+keyOf (Ciphering c) l = cipherOf c l .key
 
 abbrev pub clientOf : Client → LineState → List ℕ
 clientOf Verification l = []
-clientOf Han l = l .han .client
+clientOf (Ciphering c) l = cipherOf c l .client
 
 abbrev pub meterOf : Client → LineState → List ℕ
 meterOf Verification l = []
-meterOf Han l = l .han .meter
+meterOf (Ciphering c) l = cipherOf c l .meter
+
+-- the line with this part of a client that ciphers
+abbrev pub withCipher : CipherClient → CipherParty → LineState → LineState
+withCipher Han p l = record { title = l .title; verification = l .verification; han = p; p5 = l .p5 }

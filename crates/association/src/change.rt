@@ -1,22 +1,25 @@
 // What the line becomes: links up and down, associations begun and ended, counters. An association that ends leaves zeros,
 // and so do challenges that are answered.
 use crate::agreed_in;
+use crate::cipher_of;
 use crate::is_up;
 use crate::key_in;
 use line::CipherParty;
 use line::LineState;
 use line::Party;
 use line::Phase;
+use model::CipherClient;
 use model::Client;
 use model::Counters;
 ghost use mathlib.Core.Path.{_≡_};
 ghost use mathlib.Core.List.{[]};
 ghost use lib.ListN.{replicate};
-ghost use Rattle.model.specs.declared.Client.the-variants.{Verification, Han};
+ghost use Rattle.model.specs.declared.Client.the-variants.{Verification, Ciphering};
 ghost use Rattle.model.specs.State.{none, «pending» as pendingWith, associated};
 ghost use Rattle.line.specs.View.{lineOf};
 ghost use Rattle.protocol.specs.Clients.{associates, linked, peer, withCounters, withPeer};
 ghost use Rattle.association.specs.Ends.{Answered, Ends};
+ghost use Rattle.association.specs.Parties.{withCipher};
 
 // The client's link is up, or down, and its association ends.
 pub fn with_link(line: LineState, client: Client, up: bool) -> LineState
@@ -28,8 +31,8 @@ pub fn with_link(line: LineState, client: Client, up: bool) -> LineState
             let w = resting(v, up);
             with_verification(line, w)
         }
-        Client::Han => {
-            let h = line.han;
+        Client::Ciphering(c) => {
+            let h = cipher_of(line, c);
             let p = h.party;
             let party = resting(p, up);
             let counters = h.counters;
@@ -40,7 +43,7 @@ pub fn with_link(line: LineState, client: Client, up: bool) -> LineState
                 meter: [0u8; 8],
                 counters,
             };
-            with_han(line, k)
+            with_cipher(line, c, k)
         }
     }
 }
@@ -62,37 +65,38 @@ pub fn associated_plain(line: LineState, agreed: [u8; 3]) -> LineState
     with_verification(line, w)
 }
 
-// H is pending: its key and both challenges are held.
+// A client that ciphers is pending: its key and both challenges are held.
 pub fn pending(
     line: LineState,
+    client: CipherClient,
     agreed: [u8; 3],
     key: [u8; 16],
-    client: [u8; 8],
-    meter: [u8; 8],
+    theirs: [u8; 8],
+    ours: [u8; 8],
     counters: Counters,
 ) -> LineState
-    ensures { λ r. ⌜ lineOf r ≡ withCounters counters (associates Han (pendingWith agreed key client meter) (lineOf line)) ⌝ }
+    ensures { λ r. ⌜ lineOf r ≡ withCounters client counters (associates (Ciphering client) (pendingWith agreed key theirs ours) (lineOf line)) ⌝ }
 {
-    let h = line.han;
+    let h = cipher_of(line, client);
     let p = h.party;
     let party = in_phase(p, Phase::Pending, agreed);
     let k = CipherParty {
         party,
         key,
-        client,
-        meter,
+        client: theirs,
+        meter: ours,
         counters,
     };
-    with_han(line, k)
+    with_cipher(line, client, k)
 }
 
-// H is associated: what was agreed and its key stay, and the challenges are wiped.
-pub fn associated_ciphered(line: LineState, counters: Counters) -> LineState
-    ensures { λ r. ⌜ Answered counters (lineOf line) r ⌝ }
+// It is associated: what was agreed and its key stay, and the challenges are wiped.
+pub fn associated_ciphered(line: LineState, client: CipherClient, counters: Counters) -> LineState
+    ensures { λ r. ⌜ Answered client counters (lineOf line) r ⌝ }
 {
-    let h = line.han;
+    let h = cipher_of(line, client);
     let p = h.party;
-    let agreed = agreed_in(line, Client::Han);
+    let agreed = agreed_in(line, Client::Ciphering(client));
     let party = in_phase(p, Phase::Associated, agreed);
     let key = key_in(h);
     let k = CipherParty {
@@ -102,26 +106,26 @@ pub fn associated_ciphered(line: LineState, counters: Counters) -> LineState
         meter: [0u8; 8],
         counters,
     };
-    with_han(line, k)
+    with_cipher(line, client, k)
 }
 
-// The counters of H.
-pub fn with_counters(line: LineState, counters: Counters) -> LineState
-    ensures { λ r. ⌜ lineOf r ≡ withCounters counters (lineOf line) ⌝ }
+// The counters of a client that ciphers.
+pub fn with_counters(line: LineState, client: CipherClient, counters: Counters) -> LineState
+    ensures { λ r. ⌜ lineOf r ≡ withCounters client counters (lineOf line) ⌝ }
 {
-    let h = line.han;
+    let h = cipher_of(line, client);
     let party = h.party;
     let key = h.key;
-    let client = h.client;
-    let meter = h.meter;
+    let theirs = h.client;
+    let ours = h.meter;
     let k = CipherParty {
         party,
         key,
-        client,
-        meter,
+        client: theirs,
+        meter: ours,
         counters,
     };
-    with_han(line, k)
+    with_cipher(line, client, k)
 }
 
 // The line with this party of V.
@@ -138,17 +142,19 @@ fn with_verification(line: LineState, verification: Party) -> LineState
     }
 }
 
-// The line with this party of H.
-fn with_han(line: LineState, han: CipherParty) -> LineState
-    ensures { λ r. ⌜ r ≡ record { title = line .title; verification = line .verification; han = han; p5 = line .p5 } ⌝ }
+// The line with this part of a client that ciphers.
+fn with_cipher(line: LineState, client: CipherClient, part: CipherParty) -> LineState
+    ensures { λ r. ⌜ r ≡ withCipher client part line ⌝ }
 {
     let title = line.title;
     let verification = line.verification;
-    LineState {
-        title,
-        verification,
-        han,
-        p5: line.p5,
+    match client {
+        CipherClient::Han => LineState {
+            title,
+            verification,
+            han: part,
+            p5: line.p5,
+        },
     }
 }
 

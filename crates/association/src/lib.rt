@@ -14,15 +14,17 @@ use line::CipherParty;
 use line::LineState;
 use line::Party;
 use line::Phase;
+use model::CipherClient;
 use model::Client;
+use model::Counters;
 use protocol::Secrets;
 ghost use mathlib.Core.Path.{_≡_};
 ghost use mathlib.Core.List.{List};
 ghost use Prim.Native.Nat.{ℕ};
 ghost use Rattle.model.specs.State.{none, «pending» as pendingWith, associated};
 ghost use Rattle.envelope.specs.Layout.{keysOf};
-ghost use Rattle.line.specs.View.{cipheringOf, lineOf};
-ghost use Rattle.protocol.specs.Clients.{agreedIn, bitAgreed, clientChallenge, dedicatedKeys, isUnknown, keyIn, lentKeys, meterChallenge, peer, permitted, selectiveIn};
+ghost use Rattle.line.specs.View.{cipherOf, cipheringOf, lineOf};
+ghost use Rattle.protocol.specs.Clients.{agreedIn, bitAgreed, clientChallenge, counters, dedicatedKeys, held, isUnknown, keyIn, lentKeys, meterChallenge, peer, permitted, selectiveIn};
 ghost use Rattle.protocol.specs.Decide.{heldByP5};
 ghost use Rattle.association.specs.Parties.{partyOf};
 
@@ -48,7 +50,7 @@ pub fn is_held_by_p5(line: LineState, client: Client) -> bool
 {
     match client {
         Client::Verification => line.p5,
-        Client::Han => false,
+        Client::Ciphering(_) => false,
     }
 }
 
@@ -171,11 +173,19 @@ pub fn is_selective(line: LineState, client: Client) -> bool
     line::is_within([0x00, 0x00, 0x04], agreed)
 }
 
-// H's challenge.
-pub fn client_challenge(line: LineState) -> [u8; 8]
-    ensures { λ r. ⌜ r ≡ clientChallenge (lineOf line .han .peer .association) ⌝ }
+// The counters of a client that ciphers.
+pub fn counters_of(line: LineState, client: CipherClient) -> Counters
+    ensures { λ r. ⌜ r ≡ counters client (lineOf line) ⌝ }
 {
-    let h = line.han;
+    let h = cipher_of(line, client);
+    h.counters
+}
+
+// The client's challenge.
+pub fn client_challenge(line: LineState, client: CipherClient) -> [u8; 8]
+    ensures { λ r. ⌜ r ≡ clientChallenge (held client (lineOf line)) ⌝ }
+{
+    let h = cipher_of(line, client);
     let p = h.party;
     let phase = p.phase;
     match phase {
@@ -185,11 +195,11 @@ pub fn client_challenge(line: LineState) -> [u8; 8]
     }
 }
 
-// The meter's challenge to H.
-pub fn meter_challenge(line: LineState) -> [u8; 8]
-    ensures { λ r. ⌜ r ≡ meterChallenge (lineOf line .han .peer .association) ⌝ }
+// The meter's challenge to the client.
+pub fn meter_challenge(line: LineState, client: CipherClient) -> [u8; 8]
+    ensures { λ r. ⌜ r ≡ meterChallenge (held client (lineOf line)) ⌝ }
 {
-    let h = line.han;
+    let h = cipher_of(line, client);
     let p = h.party;
     let phase = p.phase;
     match phase {
@@ -209,10 +219,10 @@ pub fn lent_keys(secrets: Secrets) -> ReadyKeys
 }
 
 // The keys around requests and their answers, made ready.
-pub fn dedicated_keys(ak: [u8; 16], line: LineState) -> ReadyKeys
-    ensures { λ r. ⌜ keysOf r ≡ dedicatedKeys ak (lineOf line) ⌝ }
+pub fn dedicated_keys(ak: [u8; 16], line: LineState, client: CipherClient) -> ReadyKeys
+    ensures { λ r. ⌜ keysOf r ≡ dedicatedKeys ak client (lineOf line) ⌝ }
 {
-    let h = line.han;
+    let h = cipher_of(line, client);
     let dedicated = key_in(h);
     envelope::ready_keys(dedicated, ak)
 }
@@ -223,10 +233,19 @@ fn party_of(line: LineState, client: Client) -> Party
 {
     match client {
         Client::Verification => line.verification,
-        Client::Han => {
-            let h = line.han;
+        Client::Ciphering(c) => {
+            let h = cipher_of(line, c);
             h.party
         }
+    }
+}
+
+// The part of a client that ciphers.
+fn cipher_of(line: LineState, client: CipherClient) -> CipherParty
+    ensures { λ r. ⌜ r ≡ cipherOf client line ⌝ }
+{
+    match client {
+        CipherClient::Han => line.han,
     }
 }
 
@@ -244,14 +263,14 @@ fn agreed_in(line: LineState, client: Client) -> [u8; 3]
 }
 
 // The dedicated key; zeros where there is no association.
-fn key_in(han: CipherParty) -> [u8; 16]
-    ensures { λ r. ⌜ r ≡ keyIn (cipheringOf han .peer .association) ⌝ }
+fn key_in(part: CipherParty) -> [u8; 16]
+    ensures { λ r. ⌜ r ≡ keyIn (cipheringOf part .peer .association) ⌝ }
 {
-    let p = han.party;
+    let p = part.party;
     let phase = p.phase;
     match phase {
         Phase::Idle => [0u8; 16],
-        Phase::Pending => han.key,
-        Phase::Associated => han.key,
+        Phase::Pending => part.key,
+        Phase::Associated => part.key,
     }
 }

@@ -12,7 +12,8 @@ use lib.Seq.{take-at, drop-at, getD-at}
 use borrow.Author.Tests.{lt-ltb, le-ltb, eq-eqb, ne-eqb}
 use Rattle.model.specs.Limits.{greatestLength, longestReceived, longestSent}
 use Rattle.model.specs.declared.Client.{Client}
-use Rattle.model.specs.declared.Client.the-variants.{Verification, Han}
+use Rattle.model.specs.declared.Client.the-variants.{Verification, Ciphering}
+use Rattle.model.specs.declared.CipherClient.the-variants.{Han}
 use Rattle.fcs.specs.Check.{checkOf}
 use Rattle.fcs.proofs.CheckLaws.{check-fits}
 use Rattle.wire.specs.Numbers.{lowFirst, highFirst, numberLow, numberHigh}
@@ -225,7 +226,7 @@ odd-address c = omega arith
 known-address : (c : Client) → senderOf (addressOf c) ≡ Known c
 unfolding senderOf
 known-address Verification = refl
-known-address Han = refl
+known-address (Ciphering Han) = refl
 
 -- The meter's replies at a client: a data frame of 1 to the longest information sent is read back, and one with LLC and an
 -- APDU passes every test.

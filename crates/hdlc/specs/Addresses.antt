@@ -5,7 +5,8 @@ use mathlib.Core.List.{List, [], _∷_}
 use Prim.Native.Nat.{ℕ, _+_, _*_}
 use lib.Dec.{eqb}
 use Rattle.model.specs.declared.Client.{Client}
-use Rattle.model.specs.declared.Client.the-variants.{Verification, Han}
+use Rattle.model.specs.declared.Client.the-variants.{Verification, Ciphering}
+use Rattle.model.specs.declared.CipherClient.the-variants.{Han}
 use Rattle.hdlc.specs.declared.Sender.{Sender}
 use Rattle.hdlc.specs.declared.Sender.the-variants.{Known, Unknown}
 
@@ -20,7 +21,7 @@ meterAddress = onWire 0x01
 -- V 10 hex, H 13 hex
 abbrev pub numberOfClient : Client → ℕ
 numberOfClient Verification = 0x10
-numberOfClient Han = 0x13
+numberOfClient (Ciphering Han) = 0x13
 
 -- the address of a client: V 21, H 27
 abbrev pub addressOf : Client → ℕ
@@ -28,7 +29,7 @@ addressOf c = onWire (numberOfClient c)
 
 -- every client
 abbrev pub clients : List Client
-clients = Verification ∷ Han ∷ []
+clients = Verification ∷ Ciphering Han ∷ []
 
 -- the client of a list that has the address
 abbrev pub senderAmong : List Client → ℕ → Sender

@@ -6,6 +6,7 @@ use crate::Head;
 use crate::Sender;
 use crate::Verdict;
 use crate::number_of;
+use model::CipherClient;
 use model::Client;
 ghost use mathlib.Core.Path.{_≡_};
 ghost use Prim.Native.Nat.{_+_, _≤_, _<_};
@@ -125,7 +126,7 @@ fn sender(address: u8) -> Sender
 {
     match address {
         0x21 => Sender::Known(Client::Verification),
-        0x27 => Sender::Known(Client::Han),
+        0x27 => Sender::Known(Client::Ciphering(CipherClient::Han)),
         _ => Sender::Unknown,
     }
 }

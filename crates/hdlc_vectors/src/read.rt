@@ -52,7 +52,7 @@ fn apdu(client: Client, head: Head, start: usize, end: usize) {
 fn number_of(client: Client) -> usize {
     match client {
         Client::Verification => 0,
-        Client::Han => 1,
+        Client::Ciphering(_) => 1,
     }
 }
 

@@ -8,7 +8,8 @@ use lib.Bits.{bitAnd}
 use lib.Dec.{eqb}
 use lib.ListN.{length, getD, replicate}
 use Rattle.model.specs.declared.Client.{Client}
-use Rattle.model.specs.declared.Client.the-variants.{Verification, Han}
+use Rattle.model.specs.declared.Client.the-variants.{Verification, Ciphering}
+use Rattle.model.specs.declared.CipherClient.the-variants.{Han}
 use Rattle.model.specs.Services.{within}
 use Rattle.model.specs.State.{newPeer, noCounters}
 use Rattle.line.specs.declared.Party.{Party}
@@ -43,6 +44,6 @@ fresh-line l p v h e f g n =
     λ i. record { title = l .title; verification = x i; han = record { peer = y i; counters = n i }; p5 = l .p5 }
 
 -- nothing is left of either client's association
-pub left-nothing : (l : LineState) → l .verification .agreed ≡ replicate 3 0 → NoSecrets l → (c : Client) → Wiped c l
+pub left-nothing : (l : LineState) → l .verification .agreed ≡ replicate 3 0 → NoSecrets (l .han) → (c : Client) → Wiped c l
 left-nothing l v h Verification = v
-left-nothing l v h Han = h
+left-nothing l v h (Ciphering Han) = h

@@ -2,6 +2,8 @@
 use mathlib.Core.Bool.{Bool, _&&_}
 use mathlib.Core.List.{List, []}
 use Prim.Native.Nat.{ℕ}
+use Rattle.model.specs.declared.CipherClient.{CipherClient}
+use Rattle.model.specs.declared.CipherClient.the-variants.{Han}
 use Rattle.model.specs.State.{Association, none, pending, associated, Peer, CipheringPeer, Line, newMeter}
 use Rattle.model.specs.Soundness.{kindsKnown, linksStand, servicesOffered}
 use Rattle.line.specs.declared.Phase.{Phase}
@@ -21,6 +23,10 @@ peerOf p k c s = record { title = p .title; up = p .up; association = associatio
 
 abbrev pub cipheringOf : CipherParty → CipheringPeer
 cipheringOf p = record { peer = peerOf (p .party) (p .key) (p .client) (p .meter); counters = p .counters }
+
+-- the part of the line that a client that ciphers has
+abbrev pub cipherOf : CipherClient → LineState → CipherParty
+cipherOf Han l = l .han
 
 unfoldable pub lineOf : LineState → Line
 lineOf l = record { title = l .title; verification = peerOf (l .verification) [] [] []; han = cipheringOf (l .han); p5 = l .p5 }

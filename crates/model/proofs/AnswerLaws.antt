@@ -9,7 +9,8 @@ use lib.Dec.{eqb, leb}
 use Rattle.wire.proofs.NumberLaws.{length-high}
 use Rattle.model.specs.declared.Name.{Name}
 use Rattle.model.specs.declared.Client.{Client}
-use Rattle.model.specs.declared.Client.the-variants.{Verification, Han}
+use Rattle.model.specs.declared.Client.the-variants.{Verification, Ciphering}
+use Rattle.model.specs.declared.CipherClient.the-variants.{Han}
 use Rattle.model.specs.declared.Register.{Register}
 use Rattle.model.specs.Limits.{longestSent, dataRoom}
 use Rattle.model.specs.Names.{sameName, given, bearing}
@@ -84,7 +85,7 @@ module _ (ch : Chosen) where
 
   meaning-hidden : (c : Client) (n : Name) (rs : List Register) → meaning c n (map (hideRegister ch) rs) ≡ hideMeaning (meaning c n rs)
   meaning-hidden Verification n rs = own-mean n (deviceObject ∷ []) unknown unknown (refl, tt) refl
-  meaning-hidden Han n rs =
+  meaning-hidden (Ciphering Han) n rs =
       own-mean n ownObjects (amongRegisters n rs) (amongRegisters n (map (hideRegister ch) rs))
       (refl, (refl, (refl, (refl, (refl, (refl, tt))))))
       (registers-mean n rs)

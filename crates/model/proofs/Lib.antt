@@ -13,3 +13,4 @@ pub mod KeptRows
 pub mod RecordNumber
 pub mod StaySound
 pub mod AllowedNumbers
+pub mod ClientLaws

@@ -9,7 +9,8 @@ use lib.Dec.{eqb, leb}
 use borrow.Author.Tests.{leb-true, eqb-true, eq-eqb}
 use Rattle.model.specs.declared.Name.{Name}
 use Rattle.model.specs.declared.Client.{Client}
-use Rattle.model.specs.declared.Client.the-variants.{Verification, Han}
+use Rattle.model.specs.declared.Client.the-variants.{Verification, Ciphering}
+use Rattle.model.specs.declared.CipherClient.the-variants.{Han}
 use Rattle.model.specs.declared.Register.{Register}
 use Rattle.model.specs.Names.{every, sameName, given, bearing}
 use Rattle.model.specs.Objects.{Content, simple, rows, recordNumber, register, Own, ownObjects, deviceObject, profileNamed, recordNumberNamed, Meaning, known, unknown, amongOwn, meaning, serves, Parameter, Request, Result, granted, denied, goodParameter, methodInvoked}
@@ -44,7 +45,7 @@ Means (known o) n rs = Tells (o .content) n rs
 
 pub meaning-tells : (c : Client) (n : Name) (rs : List Register) → Means (meaning c n rs) n rs
 meaning-tells Verification n rs = among (λ w. Means w n rs) (deviceObject ∷ []) (bears (λ _. tt) λ _. besides tt)
-meaning-tells Han n rs =
+meaning-tells (Ciphering Han) n rs =
     among (λ w. Means w n rs) ownObjects
     (bears (λ _. tt) λ _.
     bears (λ _. tt) λ _.
@@ -79,7 +80,7 @@ each-method n x i (o ∷ os) t =
 
 meaning-method : (c : Client) (n : Name) (rs : List Register) → OneMethod (meaning c n rs)
 meaning-method Verification n rs = among OneMethod (deviceObject ∷ []) (each-method n tt 0 (deviceObject ∷ []) refl)
-meaning-method Han n rs =
+meaning-method (Ciphering Han) n rs =
     among OneMethod ownObjects (each-method n (by-test OneMethod (given n rs) (λ _. refl) (λ _. tt)) 0 ownObjects own-methods)
 
 -- What a granted ACTION was on, by the content of the object.

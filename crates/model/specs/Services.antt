@@ -5,12 +5,13 @@ use Prim.Native.Nat.{ℕ}
 use lib.Bits.{bitAnd}
 use lib.Dec.{eqb}
 use Rattle.model.specs.declared.Client.{Client}
-use Rattle.model.specs.declared.Client.the-variants.{Verification, Han}
+use Rattle.model.specs.declared.Client.the-variants.{Verification, Ciphering}
+use Rattle.model.specs.declared.CipherClient.the-variants.{Han}
 
 -- "V is offered 00 00 14 and H 00 00 15"
 abbrev pub offered : Client → List ℕ
 offered Verification = 0x00 ∷ 0x00 ∷ 0x14 ∷ []
-offered Han = 0x00 ∷ 0x00 ∷ 0x15 ∷ []
+offered (Ciphering Han) = 0x00 ∷ 0x00 ∷ 0x15 ∷ []
 
 -- "agreed: proposed and offered", bit by bit; a byte that is not proposed counts as 0
 unfoldable pub common : (proposed offered : List ℕ) → List ℕ

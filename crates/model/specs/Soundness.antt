@@ -6,7 +6,8 @@ use lib.ListN.{length}
 use lib.Dec.{eqb, leb}
 use Rattle.model.specs.declared.Name.{Name}
 use Rattle.model.specs.declared.Client.{Client}
-use Rattle.model.specs.declared.Client.the-variants.{Verification, Han}
+use Rattle.model.specs.declared.Client.the-variants.{Verification, Ciphering}
+use Rattle.model.specs.declared.CipherClient.the-variants.{Han}
 use Rattle.model.specs.declared.Register.{Register}
 use Rattle.model.specs.Limits.{maxRows, maxRegisters, maxColumns}
 use Rattle.model.specs.Names.{every, distinct, allAmong, noneAmong, nameOf}
@@ -34,7 +35,7 @@ abbrev pub knownKind : Client → Association → Bool
 knownKind Verification (pending a k c s) = false
 knownKind Verification none = true
 knownKind Verification (associated a k) = true
-knownKind Han a = true
+knownKind (Ciphering c) a = true
 
 abbrev pub isNone : Association → Bool
 isNone none = true
@@ -54,7 +55,7 @@ agreedWithin os (associated a k) = within a os
 -- the tests on the line, of "V" and of "H"
 
 abbrev pub kindsKnown : Line → Bool
-kindsKnown l = knownKind Verification (l .verification .association) && knownKind Han (l .han .peer .association)
+kindsKnown l = knownKind Verification (l .verification .association) && knownKind (Ciphering Han) (l .han .peer .association)
 
 abbrev pub linksStand : Line → Bool
 linksStand l = onLink (l .verification) && onLink (l .han .peer)
@@ -62,7 +63,7 @@ linksStand l = onLink (l .verification) && onLink (l .han .peer)
 abbrev pub servicesOffered : Line → Bool
 servicesOffered l =
     agreedWithin (offered Verification) (l .verification .association)
-    && agreedWithin (offered Han) (l .han .peer .association)
+    && agreedWithin (offered (Ciphering Han)) (l .han .peer .association)
 
 -- The tests.
 

@@ -11,7 +11,8 @@ use Rattle.wire.specs.Reading.{sameBytes}
 use Rattle.model.specs.declared.Name.{Name}
 use Rattle.model.specs.declared.Clock.{Clock}
 use Rattle.model.specs.declared.Client.{Client}
-use Rattle.model.specs.declared.Client.the-variants.{Verification, Han}
+use Rattle.model.specs.declared.Client.the-variants.{Verification, Ciphering}
+use Rattle.model.specs.declared.CipherClient.the-variants.{Han}
 use Rattle.model.specs.declared.Register.{Register}
 use Rattle.model.specs.Names.{every}
 use Rattle.model.specs.State.{Body}
@@ -51,7 +52,7 @@ answers c k n s refusal bytes =
 
 -- H reads an attribute whole, and the data are these
 abbrev pub reads : ℕ → Name → ℕ → List ℕ → Bool
-reads k n a d = answers Han k n (get a all) 0 (0xC4 ∷ 0x01 ∷ 0xC1 ∷ 0x00 ∷ d)
+reads k n a d = answers (Ciphering Han) k n (get a all) 0 (0xC4 ∷ 0x01 ∷ 0xC1 ∷ 0x00 ∷ d)
 
 unfoldable pub workedAnswers : List Bool
 workedAnswers =

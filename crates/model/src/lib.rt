@@ -1,10 +1,15 @@
 // The types that the model of a meter shares with the code: the clients, names, clocks, registers and counters. There are no
 // functions: what a meter holds and does is defined in specs/, and demand 3 is proved over it in proofs/.
 
-// The clients of the link: "V" and "H" of document 01.
+// The clients of the link that cipher: "H" of document 01.
+pub enum CipherClient {
+    Han,
+}
+
+// The clients of the link: "V" of document 01, and those that cipher.
 pub enum Client {
     Verification,
-    Han,
+    Ciphering(CipherClient),
 }
 
 // A logical name: the "name" of an object or a register.

@@ -3,6 +3,7 @@ use crate::Found;
 use crate::Plain;
 use crate::Served;
 use crate::Shown;
+use model::CipherClient;
 use model::Client;
 use model::Name;
 use store::Registers;
@@ -10,6 +11,7 @@ ghost use mathlib.Core.Path.{_≡_};
 ghost use mathlib.Core.Bool.{cond};
 ghost use mathlib.Core.List.{[], _∷_};
 ghost use Prim.Native.Nat.{_≤_};
+ghost use Rattle.model.specs.declared.Client.the-variants.{Ciphering};
 ghost use Rattle.model.specs.Objects.{amongOwn, amongRegisters, deviceObject, meaning, ownObjects, unknown};
 ghost use Rattle.store.specs.Lists.{registersOf};
 ghost use Rattle.objects.specs.declared.Found.the-variants.{Known};
@@ -22,7 +24,17 @@ pub fn find(client: Client, name: Name, registers: Registers) -> Found
 {
     match client {
         Client::Verification => find_device(name),
-        Client::Han => find_own(name, registers),
+        Client::Ciphering(c) => find_ciphering(c, name, registers),
+    }
+}
+
+// What it means to a client that ciphers.
+fn find_ciphering(client: CipherClient, name: Name, registers: Registers) -> Found
+    requires { ⌜ registers .count ≤ 16 ⌝ }
+    ensures { λ r. ⌜ foundAs name r ≡ meaning (Ciphering client) name (registersOf registers) ⌝ }
+{
+    match client {
+        CipherClient::Han => find_own(name, registers),
     }
 }
 

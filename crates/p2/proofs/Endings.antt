@@ -1,8 +1,9 @@
 -- How a call ends: from what went out, the number and the line or the body afterwards, to what a ruling of the protocol and
 -- the call itself promise.
-use mathlib.Core.Path.{_≡_, refl, sym, ap, _∙_}
+use mathlib.Core.Path.{_≡_, refl, sym, ap, subst, _∙_}
 use mathlib.Core.Bool.{Bool, true, false, false≢true}
 use mathlib.Core.List.{List, [], _++_}
+use mathlib.Core.Logic.{⊎-elim}
 use Prim.Native.Nat.{ℕ, _+_, _-_, _≤_, _<_}
 use native.Mathlib.Omega.{arith}
 use lib.Dec.{eqb}
@@ -11,7 +12,9 @@ use borrow.Author.Tests.{ne-eqb}
 use Rattle.model.specs.Periods.{listed}
 use Rattle.model.specs.Limits.{longestSent, textRoom, envelopeLength}
 use Rattle.model.specs.declared.Client.{Client}
-use Rattle.model.specs.declared.Client.the-variants.{Verification, Han}
+use Rattle.model.specs.declared.CipherClient.{CipherClient}
+use Rattle.model.specs.declared.Client.the-variants.{Verification, Ciphering}
+use Rattle.model.specs.declared.CipherClient.the-variants.{Han}
 use Rattle.model.specs.declared.Counters.{Counters}
 use Rattle.model.specs.State.{Association, none, pending, associated, Peer, Line, Body}
 use Rattle.model.specs.Objects.{Request, Service, get, action, meaning, Result, granted, denied, refusalOf as resultNumber, attributeRead, methodInvoked, getAnswer, actionAnswer, answered, turned}
@@ -22,6 +25,7 @@ use Rattle.wire.proofs.WroteLaws.{past, there}
 use Rattle.hdlc.specs.declared.Head.{Head}
 use Rattle.hdlc.specs.Replies.{apduFrame, Sent}
 use Rattle.hdlc_write.proofs.ReplyLaws.{length-apdu}
+use Rattle.acse.specs.Clients.{ciphers}
 use Rattle.envelope.specs.Layout.{Keys, sealedEnvelope}
 use Rattle.envelope.proofs.CloseLaws.{envelope-size, length-envelope}
 use Rattle.answers.specs.declared.Answered.{Answered as BodyAnswer}
@@ -32,12 +36,14 @@ use Rattle.body.specs.declared.BodyState.{BodyState}
 use Rattle.body.specs.View.{bodyOf}
 use Rattle.meter.specs.declared.Meter.{Meter}
 use Rattle.meter.specs.View.{view}
+use Rattle.line.specs.View.{cipherOf}
 use Rattle.line.specs.Left.{NoChallenges, Wiped}
-use Rattle.protocol.specs.Clients.{peer, withPeer, associates, withCounters, dedicatedKeys, isPending, isAssociated}
+use Rattle.protocol.specs.Clients.{peer, withPeer, associates, counters, withCounters, held, dedicatedKeys, isPending, isAssociated}
+use Rattle.protocol.proofs.LineLaws.{own-part, other-part, counted-part}
 use Rattle.protocol.specs.Rulings.{Test, refusalOf, Reply, bytesOf, Ruling, says, asks}
 use Rattle.protocol.specs.Outcomes.{keeping}
 use Rattle.counters.specs.Window.{accepting}
-use Rattle.protocol.specs.Decide.{accepted, ruled, decide, wrap, around, seal}
+use Rattle.protocol.specs.Decide.{accepted, advanced, ruled, decide, wrap, around, seal}
 use Rattle.p2.specs.declared.Received.{Received}
 use Rattle.p2.specs.Promise.{Wipes, LeavesNothing, Answered}
 use Rattle.p2.specs.Inner.{received, SameAssociations, Follows}
@@ -63,55 +69,59 @@ not-both none h q = absurd (false≢true h)
 not-both (pending a k c s) h q = absurd (false≢true q)
 not-both (associated a k) h q = absurd (false≢true h)
 
+-- one client's part is replaced: an association that this client, or another one, has no more
+module _ (next : LineState) (d : Client) (p : Peer) (l : Line) where
+  gone : (c : Client) → (c ≡ d → isNone (p .association) ≡ true → Wiped c next) → isNone (peer c l .association) ≡ false → isNone (peer c (withPeer d p l) .association) ≡ true → Wiped c next
+  gone c w h q =
+      ⊎-elim (λ e. w e (ap (λ (x : Peer). isNone (x .association)) (sym (own-part d p l)) ∙ rw e at q))
+      (λ e. no-end h (ap (λ (x : Peer). isNone (x .association)) (sym e) ∙ q)) (other-part c d p l)
+
+  proven : (c : CipherClient) → (Ciphering c ≡ d → isAssociated (p .association) ≡ true → NoChallenges (cipherOf c next)) → isPending (held c l) ≡ true → isAssociated (held c (withPeer d p l)) ≡ true → NoChallenges (cipherOf c next)
+  proven c w h q =
+      ⊎-elim (λ e. w e (ap (λ (x : Peer). isAssociated (x .association)) (sym (own-part d p l)) ∙ subst (λ (y : Client). isAssociated (peer y (withPeer d p l) .association) ≡ true) e q))
+      (λ e. not-both (held c l) h (ap (λ (x : Peer). isAssociated (x .association)) (sym e) ∙ q)) (other-part (Ciphering c) d p l)
+
 module _ (next : LineState) where
-  ended-one : (d : Client) (p : Peer) (l : Line) → Wiped d next → (c : Client) → isNone (peer c l .association) ≡ false → isNone (peer c (withPeer d p l) .association) ≡ true → Wiped c next
-  ended-one Verification p l w Verification h q = w
-  ended-one Verification p l w Han h q = no-end h q
-  ended-one Han p l w Verification h q = no-end h q
-  ended-one Han p l w Han h q = w
-
-  answered-one : (d : Client) (p : Peer) (l : Line) → Wiped d next → isPending (l .han .peer .association) ≡ true → isAssociated (withPeer d p l .han .peer .association) ≡ true → NoChallenges next
-  answered-one Verification p l w h q = not-both (l .han .peer .association) h q
-  answered-one Han p l w h q = w .challenges
-
-  -- one client's association ends, and the other's is as it was
+  -- one client's association ends
   pub ends-one : (d : Client) (p : Peer) (l : Line) → Wiped d next → Wipes l (withPeer d p l) next
-  ends-one d p l w = record { ended = ended-one d p l w; answered = answered-one d p l w }
+  ends-one d p l w =
+      record {
+        ended = λ c h q. gone next d p l c (λ e _. subst (λ (y : Client). Wiped y next) (sym e) w) h q;
+        answered = λ c h q. proven next d p l c (λ e _. subst (λ (y : Client). Wiped y next) (sym e) w .challenges) h q;
+      }
 
-  -- one client has an association
-  stood-one : (d : Client) (x : Association) (l : Line) → isNone x ≡ false → (c : Client) → isNone (peer c l .association) ≡ false → isNone (peer c (associates d x l) .association) ≡ true → Wiped c next
-  stood-one Verification x l e Verification h q = no-end e q
-  stood-one Verification x l e Han h q = no-end h q
-  stood-one Han x l e Verification h q = no-end h q
-  stood-one Han x l e Han h q = no-end e q
+  -- one client has an association; where it is associated, nothing is left of its challenges
+  stands-one : (d : Client) (x : Association) (l : Line) → isNone x ≡ false
+      → ((c : CipherClient) → Ciphering c ≡ d → isAssociated x ≡ true → NoChallenges (cipherOf c next)) → Wipes l (associates d x l) next
+  stands-one d x l e a =
+      record { ended = λ c h q. gone next d _ l c (λ _ g. no-end e g) h q; answered = λ c h q. proven next d _ l c (a c) h q }
 
   pub stands-plain : (x : Association) (l : Line) → isNone x ≡ false → Wipes l (associates Verification x l) next
-  stands-plain x l e = record { ended = stood-one Verification x l e; answered = λ h q. not-both (l .han .peer .association) h q }
+  stands-plain x l e = stands-one Verification x l e (λ c q. absurd (false≢true (sym (ap ciphers q))))
 
-  pub stands-ciphered : (x : Association) (l : Line) → isNone x ≡ false → (isAssociated x ≡ true → NoChallenges next) → Wipes l (associates Han x l) next
-  stands-ciphered x l e a = record { ended = stood-one Han x l e; answered = λ h q. a q }
+  pub stands-ciphered : (d : CipherClient) (x : Association) (l : Line) → isNone x ≡ false → (isAssociated x ≡ true → NoChallenges (cipherOf d next)) → Wipes l (associates (Ciphering d) x l) next
+  stands-ciphered d x l e a = stands-one (Ciphering d) x l e (λ c q g. (let z : c ≡ d = cc in rw z (a g)))
 
   -- counters are no part of it
-  counted-ended : (n : Counters) (l : Line) {m : Line} → Wipes m l next → (c : Client) → isNone (peer c m .association) ≡ false → isNone (peer c (withCounters n l) .association) ≡ true → Wiped c next
-  counted-ended n l w Verification h q = w .ended Verification h q
-  counted-ended n l w Han h q = w .ended Han h q
-
-  pub counted : (n : Counters) (l : Line) {m : Line} → Wipes m l next → Wipes m (withCounters n l) next
-  counted n l w = record { ended = counted-ended n l w; answered = w .answered }
-
-pub counted-same : (n : Counters) (l : Line) → SameAssociations l (withCounters n l)
-counted-same n l Verification = refl
-counted-same n l Han = refl
+  pub counted : (d : CipherClient) (n : Counters) (l : Line) {m : Line} → Wipes m l next → Wipes m (withCounters d n l) next
+  counted d n l w =
+      record {
+        ended = λ c h q. w .ended c h (ap (λ (x : Peer). isNone (x .association)) (sym (counted-part d n l c)) ∙ q);
+        answered = λ c h q. w .answered c h (ap (λ (x : Peer). isAssociated (x .association)) (sym (counted-part d n l (Ciphering c))) ∙ q);
+      }
 
 -- nor is the last accepted counter
-pub accepted-same : (counter : ℕ) (l : Line) {n : Line} → n ≡ accepted counter l → SameAssociations l n
-accepted-same counter l e d = ap (λ (y : Line). peer d y .association) e ∙ counted-same (accepting (l .han .counters) counter) l d
+pub counted-same : (c : CipherClient) (n : Counters) (l : Line) → SameAssociations l (withCounters c n l)
+counted-same c n l d = ap (λ (x : Peer). x .association) (counted-part c n l d)
+
+pub accepted-same : (c : CipherClient) (counter : ℕ) (l : Line) {n : Line} → n ≡ accepted c counter l → SameAssociations l n
+accepted-same c counter l e d = ap (λ (y : Line). peer d y .association) e ∙ counted-same c (accepting (counters c l) counter) l d
 
 pub same-wipes : {l n : Line} (next : LineState) → SameAssociations l n → Wipes l n next
 same-wipes {l} next k =
     record {
       ended = λ c h q. no-end h (sym (ap isNone (k c)) ∙ q);
-      answered = λ h q. not-both (l .han .peer .association) h (sym (ap isAssociated (k Han)) ∙ q);
+      answered = λ c h q. not-both (held c l) h (sym (ap isAssociated (k (Ciphering c))) ∙ q);
     }
 
 -- by the line of the code
@@ -120,11 +130,11 @@ module _ (m : Meter) (next : LineState) {becomes : Line} (v : lineOf next ≡ be
   leaves b w =
       record {
         ended = λ c h q. w .ended c h (ap (λ (y : Line). isNone (peer c y .association)) (sym v) ∙ q);
-        answered = λ h q. w .answered h (ap (λ (y : Line). isAssociated (y .han .peer .association)) (sym v) ∙ q);
+        answered = λ c h q. w .answered c h (ap (λ (y : Line). isAssociated (held c y)) (sym v) ∙ q);
       }
 
 kept-leaves : (m : Meter) → LeavesNothing m m
-kept-leaves m = record { ended = λ c h q. no-end h q; answered = λ h q. not-both (lineOf (m .line) .han .peer .association) h q }
+kept-leaves m = record { ended = λ c h q. no-end h q; answered = λ c h q. not-both (held c (lineOf (m .line))) h q }
 
 -- Rulings.
 
@@ -209,23 +219,22 @@ module _ (q : Request) (b : Body) (at : ℕ) {l m : List ℕ} {r : BodyAnswer} (
   answer-there : take (r .next - at) (drop at m) ≡ turned q b .bytes
   answer-there = ap (λ (n : ℕ). take n (drop at m)) answer-size ∙ there (t .wrote)
 
-  pub plain-sent : (ak : List ℕ) (h : Head) (n : Line) {o : List ℕ} {k : ℕ} → at ≤ 14 → Sent (apduFrame h (take (r .next - at) (drop at m))) m o k → Sent (seal n (wrap ak h 0xC0) (turned q b .bytes)) l o k
+  pub plain-sent : (ak : List ℕ) (h : Head) (n : Line) {o : List ℕ} {k : ℕ} → at ≤ 14 → Sent (apduFrame h (take (r .next - at) (drop at m))) m o k → Sent (seal n (wrap ak Verification h 0xC0) (turned q b .bytes)) l o k
   unfolding seal around
   plain-sent ak h n e s =
       let bs = turned q b .bytes in
       sent-over (t .wrote) (rw (answer-there) at s) (omega (arith, t .wrote .next, length-apdu h bs))
 
-  pub enclosed-sent : (ak title : List ℕ) (h : Head) (tag counter : ℕ) (keys : Keys) (n : Line) {o : List ℕ} {k : ℕ} → at ≤ 20 → 0xC0 < tag
-      → keys ≡ dedicatedKeys ak n → title ≡ n .title → counter ≡ n .han .counters .sent
+  pub enclosed-sent : (c : CipherClient) (ak title : List ℕ) (h : Head) (tag counter : ℕ) (keys : Keys) (n : Line) {o : List ℕ} {k : ℕ} → at ≤ 20
+      → keys ≡ dedicatedKeys ak c n → title ≡ n .title → counter ≡ counters c n .sent
       → Sent (apduFrame h (sealedEnvelope keys title (tag + 4) counter (take (r .next - at) (drop at m)))) m o k
-      → Sent (seal n (wrap ak h tag) (turned q b .bytes)) l o k
+      → Sent (seal n (wrap ak (Ciphering c) h tag) (turned q b .bytes)) l o k
   unfolding seal around
-  enclosed-sent ak title h tag counter keys n e g ek et ec s =
+  enclosed-sent c ak title h tag counter keys n e ek et ec s =
       let bs = turned q b .bytes in
       let u = rw (answer-there, ek, et, ec) at s in
-      let z : length (sealedEnvelope (dedicatedKeys ak n) (n .title) (tag + 4) (n .han .counters .sent) bs) ≡ envelopeLength (length bs) = length-envelope (dedicatedKeys ak n) (n .title) (tag + 4) (n .han .counters .sent) bs in
-      rw (ne-eqb tag 0xC0 (λ x. omega arith))
-      (sent-over (t .wrote) u (omega (arith, t .wrote .next, z, envelope-size (length bs), length-apdu h (sealedEnvelope (dedicatedKeys ak n) (n .title) (tag + 4) (n .han .counters .sent) bs))))
+      let z : length (sealedEnvelope (dedicatedKeys ak c n) (n .title) (tag + 4) (counters c n .sent) bs) ≡ envelopeLength (length bs) = length-envelope (dedicatedKeys ak c n) (n .title) (tag + 4) (counters c n .sent) bs in
+      sent-over (t .wrote) u (omega (arith, t .wrote .next, z, envelope-size (length bs), length-apdu h (sealedEnvelope (dedicatedKeys ak c n) (n .title) (tag + 4) (counters c n .sent) bs)))
 
 -- The call.
 

@@ -7,7 +7,8 @@ use mir.Val.{Val}
 use denote.Laws.{Is}
 use denote.Struct.Declared.{row}
 use Rattle.model.specs.declared.Client.{Client}
-use Rattle.model.specs.declared.Client.the-variants.{Verification, Han}
+use Rattle.model.specs.declared.Client.the-variants.{Verification, Ciphering}
+use Rattle.model.specs.declared.CipherClient.the-variants.{Han}
 use Rattle.line.specs.declared.LineState.{LineState}
 use Rattle.line.specs.View.{lineOf}
 use Rattle.line.proofs.LineState.{the-type as line-type}
@@ -16,4 +17,4 @@ use Rattle.protocol.specs.Clients.{peer}
 pub title-long : (l : LineState) (vs : List Val) → Is (row line-type) l vs → (c : Client) → length (peer c (lineOf l) .title) ≡ 8
 unfolding lineOf
 title-long l vs g Verification = simp length-map at (g .1 .1 .1 .0 .1 .1 .0 .1 .0 .1)
-title-long l vs g Han = simp length-map at (g .1 .1 .1 .1 .0 .1 .1 .0 .1 .1 .0 .1 .0 .1)
+title-long l vs g (Ciphering Han) = simp length-map at (g .1 .1 .1 .1 .0 .1 .1 .0 .1 .1 .0 .1 .0 .1)

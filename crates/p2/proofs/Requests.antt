@@ -13,7 +13,7 @@ use Rattle.cosem.specs.declared.Tag.{Tag}
 use Rattle.cosem.specs.declared.Tag.the-variants.{Aarq, Rlrq, GetRequest, SetRequest, ActionRequest, GloActionRequest, DedGetRequest, DedSetRequest, DedActionRequest, Unknown}
 use Rattle.cosem.proofs.Tag.{the-type as tag-type}
 use Rattle.protocol.specs.declared.Secrets.{Secrets}
-use Rattle.protocol.specs.Decide.{byTag, requestEnclosed}
+use Rattle.protocol.specs.Decide.{byTag, ofCiphering, requestEnclosed}
 use Rattle.p2.specs.Inner.{requestByte}
 
 -- the numbers that the arm has of its tags
@@ -35,8 +35,8 @@ only P g a GloActionRequest h = absurd (neither 5 h (λ e. omega arith) (λ e. o
 only P g a DedSetRequest h = absurd (neither 7 h (λ e. omega arith) (λ e. omega arith))
 only P g a Unknown h = absurd (neither 9 h (λ e. omega arith) (λ e. omega arith))
 
-pub request-bounds : (t : Tag) → Requests t → (0xC0 < requestByte t) × (requestByte t < 0xFC)
-request-bounds = only (λ t. (0xC0 < requestByte t) × (requestByte t < 0xFC)) (omega arith, omega arith) (omega arith, omega arith)
+pub request-bounds : (t : Tag) → Requests t → requestByte t < 0xFC
+request-bounds = only (λ t. requestByte t < 0xFC) (omega arith) (omega arith)
 
-pub request-ruled : (l : Line) (a : Secrets) (c : Client) (h : Head) (s : List ℕ) (t : Tag) → Requests t → byTag l a c h s t ≡ requestEnclosed l a h (requestByte t) s
-request-ruled l a c h s = only (λ t. byTag l a c h s t ≡ requestEnclosed l a h (requestByte t) s) refl refl
+pub request-ruled : (l : Line) (a : Secrets) (c : Client) (h : Head) (s : List ℕ) (t : Tag) → Requests t → byTag l a c h s t ≡ ofCiphering l c h (λ k. requestEnclosed l a k h (requestByte t) s)
+request-ruled l a c h s = only (λ t. byTag l a c h s t ≡ ofCiphering l c h (λ k. requestEnclosed l a k h (requestByte t) s)) refl refl

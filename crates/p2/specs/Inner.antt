@@ -7,6 +7,7 @@ use Prim.Native.Nat.{ℕ}
 use lib.ListN.{replicate}
 use Rattle.wire.specs.Reading.{filled}
 use Rattle.model.specs.declared.Client.{Client}
+use Rattle.model.specs.declared.CipherClient.{CipherClient}
 use Rattle.model.specs.Periods.{listed}
 use Rattle.model.specs.State.{Line}
 use Rattle.model.specs.Soundness.{sound}
@@ -87,8 +88,8 @@ abbrev pub TellsUnder : ReadyKeys → (Secrets → Ruling) → LineState → (be
 TellsUnder k x line l o r = (a : Secrets) → TellsWith k a (x a) line l o r
 
 -- and of requests, where they are those of the association
-abbrev pub FollowsUnder : ReadyKeys → (Secrets → Ruling) → Meter → (before after : List ℕ) → Received → Type 0
-FollowsUnder k x m l o r = (a : Secrets) → keysOf k ≡ dedicatedKeys (a .ak) (lineOf (m .line)) → Follows (x a) m l o r
+abbrev pub FollowsUnder : CipherClient → ReadyKeys → (Secrets → Ruling) → Meter → (before after : List ℕ) → Received → Type 0
+FollowsUnder c k x m l o r = (a : Secrets) → keysOf k ≡ dedicatedKeys (a .ak) c (lineOf (m .line)) → Follows (x a) m l o r
 
 -- both lines have the same associations
 abbrev pub SameAssociations : Line → Line → Type 0

@@ -1,4 +1,4 @@
-// Requests for the body: V's plain GET, and H's GET and ACTION in their envelopes.
+// Requests for the body: V's plain GET, and GET and ACTION of a client that ciphers in their envelopes.
 use crate::Received;
 use crate::Told;
 use crate::ending::except;
@@ -13,6 +13,7 @@ use envelope::ReadyKeys;
 use hdlc::Head;
 use line::LineState;
 use meter::Meter;
+use model::CipherClient;
 use model::Client;
 use protocol::Secrets;
 use replies::APDU_AT;
@@ -21,13 +22,13 @@ ghost use mathlib.Core.Path.{_≡_};
 ghost use mathlib.Core.List.{List};
 ghost use Prim.Native.Nat.{ℕ, _<_};
 ghost use Rattle.model.specs.State.{none};
-ghost use Rattle.model.specs.declared.Client.the-variants.{Han};
+ghost use Rattle.model.specs.declared.Client.the-variants.{Ciphering, Verification};
 ghost use Rattle.cosem.specs.Requests.{readGet, requested};
 ghost use Rattle.line.specs.View.{lineOf};
 ghost use Rattle.protocol.specs.declared.Secrets.{Secrets as Lender};
 ghost use Rattle.protocol.specs.Clients.{associates, selectiveIn};
 ghost use Rattle.protocol.specs.Rulings.{asks, nothing, outsideWindow, says};
-ghost use Rattle.protocol.specs.Decide.{accepted, advanced, asked, askedInside, readInside, requestEnclosed, wrap};
+ghost use Rattle.protocol.specs.Decide.{accepted, advanced, asked, askedInside, ofCiphering, readInside, requestEnclosed, wrap};
 ghost use Rattle.p2.specs.Inner.{Follows, FollowsUnder, Ready, Tells};
 
 // A plain request. No key has a part in it.
@@ -53,7 +54,7 @@ fn answer_plain(
     out: &mut [u8],
 ) -> Received
     requires { ⌜ Ready meter (now out) ⌝ }
-    ensures { λ r. ⌜ ((ak : List ℕ) → Follows (asks (requested client (selectiveIn client (lineOf (meter .line))) (now (apdu .entry)) request) (wrap ak head 0xC0) (lineOf (meter .line))) meter (now (out .entry)) (now (out .exit)) r) ⌝ }
+    ensures { λ r. ⌜ ((ak : List ℕ) → Follows (asks (requested client (selectiveIn client (lineOf (meter .line))) (now (apdu .entry)) request) (wrap ak Verification head 0xC0) (lineOf (meter .line))) meter (now (out .entry)) (now (out .exit)) r) ⌝ }
 {
     let line = meter.line;
     let body = meter.body;
@@ -70,39 +71,62 @@ fn answer_plain(
     }
 }
 
-// A request of H in its envelope, with the tag of GET or of ACTION.
-pub fn ask_enclosed(
+// A request with a tag that is for clients that cipher.
+pub fn ask_ciphered(
     meter: Meter,
     secrets: Secrets,
+    client: Client,
     head: Head,
     tag: u8,
     apdu: &[u8],
     out: &mut [u8],
 ) -> Received
-    requires { ⌜ (Ready meter (now out)) × (0xC0 < tag) × (tag < 0xFC) ⌝ }
-    ensures { λ r. ⌜ Follows (requestEnclosed (lineOf (meter .line)) secrets head tag (now (apdu .entry))) meter (now (out .entry)) (now (out .exit)) r ⌝ }
+    requires { ⌜ (Ready meter (now out)) × (tag < 0xFC) ⌝ }
+    ensures { λ r. ⌜ Follows (ofCiphering (lineOf (meter .line)) client head (λ c. requestEnclosed (lineOf (meter .line)) secrets c head tag (now (apdu .entry)))) meter (now (out .entry)) (now (out .exit)) r ⌝ }
 {
     let line = meter.line;
-    let han = line.han;
+    match client {
+        Client::Verification => {
+            joined(except(line, head, Exception::ServiceNotAllowed, out), meter)
+        }
+        Client::Ciphering(c) => ask_enclosed(meter, secrets, c, head, tag, apdu, out),
+    }
+}
+
+// A request of a client that ciphers in its envelope, with the tag of GET or of ACTION.
+fn ask_enclosed(
+    meter: Meter,
+    secrets: Secrets,
+    client: CipherClient,
+    head: Head,
+    tag: u8,
+    apdu: &[u8],
+    out: &mut [u8],
+) -> Received
+    requires { ⌜ (Ready meter (now out)) × (tag < 0xFC) ⌝ }
+    ensures { λ r. ⌜ Follows (requestEnclosed (lineOf (meter .line)) secrets client head tag (now (apdu .entry))) meter (now (out .entry)) (now (out .exit)) r ⌝ }
+{
+    let line = meter.line;
     let ak = secrets.ak;
-    let keys = association::dedicated_keys(ak, line);
-    let title = association::title_of(line, Client::Han);
+    let pair = association::counters_of(line, client);
+    let keys = association::dedicated_keys(ak, line, client);
+    let title = association::title_of(line, Client::Ciphering(client));
     let mut text = [0u8; LONGEST_APDU];
-    let admission = envelope::admit_envelope(keys, title, tag, han.counters, apdu, &mut text);
+    let admission = envelope::admit_envelope(keys, title, tag, pair, apdu, &mut text);
     match admission {
         Admission::Unopened => joined(kept(6, line), meter),
-        Admission::OutsideWindow => joined(drop_association(line), meter),
+        Admission::OutsideWindow => joined(drop_association(line, client), meter),
         Admission::Admitted { counter, size } => {
-            ask_inside(meter, keys, head, tag, counter, &text[0..size], out)
+            ask_inside(meter, client, keys, head, tag, counter, &text[0..size], out)
         }
     }
 }
 
-// Refusal 7: nothing goes out, and H's association is dropped.
-pub fn drop_association(line: LineState) -> Told
-    ensures { λ r. ⌜ ((l : List ℕ) → Tells (says outsideWindow nothing (associates Han none (lineOf line))) line l l r) ⌝ }
+// Refusal 7: nothing goes out, and the client's association is dropped.
+pub fn drop_association(line: LineState, client: CipherClient) -> Told
+    ensures { λ r. ⌜ ((l : List ℕ) → Tells (says outsideWindow nothing (associates (Ciphering client) none (lineOf line))) line l l r) ⌝ }
 {
-    let next = association::ended(line, Client::Han);
+    let next = association::ended(line, Client::Ciphering(client));
     Told {
         refusal: 7,
         count: 0,
@@ -110,18 +134,19 @@ pub fn drop_association(line: LineState) -> Told
     }
 }
 
-// The line with a counter of H's as the last accepted.
-pub fn accept_counter(line: LineState, counter: u32) -> LineState
-    ensures { λ r. ⌜ lineOf r ≡ accepted counter (lineOf line) ⌝ }
+// The line with a counter of the client's as the last accepted.
+pub fn accept_counter(line: LineState, client: CipherClient, counter: u32) -> LineState
+    ensures { λ r. ⌜ lineOf r ≡ accepted client counter (lineOf line) ⌝ }
 {
-    let han = line.han;
-    let pair = counters::accept(han.counters, counter);
-    association::with_counters(line, pair)
+    let held = association::counters_of(line, client);
+    let pair = counters::accept(held, counter);
+    association::with_counters(line, client, pair)
 }
 
-// An opened request of H, under the keys that opened it.
+// An opened request, under the keys that opened it.
 fn ask_inside(
     meter: Meter,
+    client: CipherClient,
     keys: ReadyKeys,
     head: Head,
     tag: u8,
@@ -129,16 +154,16 @@ fn ask_inside(
     text: &[u8],
     out: &mut [u8],
 ) -> Received
-    requires { ⌜ (Ready meter (now out)) × (0xC0 < tag) × (tag < 0xFC) ⌝ }
-    ensures { λ r. ⌜ FollowsUnder keys (λ a. askedInside (lineOf (meter .line)) a head tag counter (now (text .entry)) (readInside tag (now (text .entry)))) meter (now (out .entry)) (now (out .exit)) r ⌝ }
+    requires { ⌜ (Ready meter (now out)) × (tag < 0xFC) ⌝ }
+    ensures { λ r. ⌜ FollowsUnder client keys (λ a. askedInside (lineOf (meter .line)) a client head tag counter (now (text .entry)) (readInside tag (now (text .entry)))) meter (now (out .entry)) (now (out .exit)) r ⌝ }
 {
     let reading = read_inside(tag, text);
     match reading {
         Reading::Asks(request) => {
-            answer_enclosed(meter, keys, head, tag, counter, text, request, out)
+            answer_enclosed(meter, client, keys, head, tag, counter, text, request, out)
         }
         Reading::Malformed => {
-            let next = accept_counter(meter.line, counter);
+            let next = accept_counter(meter.line, client, counter);
             joined(except(next, head, Exception::ServiceUnknown, out), meter)
         }
     }
@@ -155,9 +180,10 @@ fn read_inside(tag: u8, text: &[u8]) -> Reading
     }
 }
 
-// The body's answer to an opened request of H, in an envelope with the meter's next counter.
+// The body's answer to an opened request, in an envelope with the meter's next counter.
 fn answer_enclosed(
     meter: Meter,
+    client: CipherClient,
     keys: ReadyKeys,
     head: Head,
     tag: u8,
@@ -166,18 +192,19 @@ fn answer_enclosed(
     request: Asked,
     out: &mut [u8],
 ) -> Received
-    requires { ⌜ (Ready meter (now out)) × (0xC0 < tag) × (tag < 0xFC) ⌝ }
-    ensures { λ r. ⌜ FollowsUnder keys (λ a. asks (requested Han (selectiveIn Han (lineOf (meter .line))) (now (text .entry)) request) (wrap (a .ak) head tag) (advanced (accepted counter (lineOf (meter .line))))) meter (now (out .entry)) (now (out .exit)) r ⌝ }
+    requires { ⌜ (Ready meter (now out)) × (tag < 0xFC) ⌝ }
+    ensures { λ r. ⌜ FollowsUnder client keys (λ a. asks (requested (Ciphering client) (selectiveIn (Ciphering client) (lineOf (meter .line))) (now (text .entry)) request) (wrap (a .ak) (Ciphering client) head tag) (advanced client (accepted client counter (lineOf (meter .line))))) meter (now (out .entry)) (now (out .exit)) r ⌝ }
 {
     let line = meter.line;
     let body = meter.body;
-    let han = line.han;
-    let pair = counters::accept(han.counters, counter);
+    let held = association::counters_of(line, client);
+    let pair = counters::accept(held, counter);
     let taken = counters::take(pair);
     let number = taken.number;
-    let next = association::with_counters(line, taken.counters);
-    let selective = association::is_selective(line, Client::Han);
-    let answer = answers::answer(body, Client::Han, selective, text, request, out, TEXT_AT);
+    let next = association::with_counters(line, client, taken.counters);
+    let asking = Client::Ciphering(client);
+    let selective = association::is_selective(line, asking);
+    let answer = answers::answer(body, asking, selective, text, request, out, TEXT_AT);
     let size = answer.next - TEXT_AT;
     let title = line.title;
     let count = replies::send_enclosed(out, head, keys, title, tag + 4, number, size);

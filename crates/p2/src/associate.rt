@@ -1,4 +1,4 @@
-// AARQ: V's is plain, H's has its initiate request in an envelope.
+// AARQ: V's is plain, that of a client that ciphers has its initiate request in an envelope.
 use crate::Told;
 use acse::Aarq;
 use acse::InitiateRequest;
@@ -7,19 +7,20 @@ use envelope::Opening;
 use envelope::ReadyKeys;
 use hdlc::Head;
 use line::LineState;
+use model::CipherClient;
 use model::Client;
 use protocol::Secrets;
 ghost use mathlib.Core.Path.{_≡_};
 ghost use lib.ListN.{replicate};
 ghost use Rattle.wire.specs.Reading.{filled};
-ghost use Rattle.model.specs.declared.Client.the-variants.{Han};
+ghost use Rattle.model.specs.declared.Client.the-variants.{Ciphering};
 ghost use Rattle.acse.specs.Aarq.{readAarq};
 ghost use Rattle.acse.specs.Initiate.{readRequest};
 ghost use Rattle.envelope.specs.Opening.{opened};
 ghost use Rattle.line.specs.View.{lineOf};
-ghost use Rattle.protocol.specs.Clients.{lentKeys, peer};
+ghost use Rattle.protocol.specs.Clients.{ciphering, lentKeys, peer};
 ghost use Rattle.protocol.specs.Rulings.{refusedAarq};
-ghost use Rattle.protocol.specs.Decide.{acceptedCiphered, acceptedPlain, associating, enclosed, initiated};
+ghost use Rattle.protocol.specs.Decide.{acceptedCiphered, acceptedPlain, associating, cipheredFrom, enclosed, initiated, plainFrom};
 ghost use Rattle.replies.specs.Room.{HasRoom};
 ghost use Rattle.p2.specs.Inner.{Tells, TellsWith};
 
@@ -40,14 +41,14 @@ pub fn associate(
     match aarq {
         Aarq::Plain { services } => {
             let proposed = three_at(apdu, services);
-            accept_plain(line, head, proposed, out)
+            accept_from(line, client, head, proposed, out)
         }
         Aarq::Ciphered {
             challenge,
             envelope,
         } => {
             let theirs = eight_at(apdu, challenge);
-            open_request(line, secrets, head, theirs, &apdu[envelope..], out)
+            open_from(line, secrets, client, head, theirs, &apdu[envelope..], out)
         }
         Aarq::Departs => reject_aarq(line, client, head, out),
     }
@@ -63,6 +64,42 @@ fn reject_aarq(line: LineState, client: Client, head: Head, out: &mut [u8]) -> T
         refusal: 11,
         count,
         line,
+    }
+}
+
+// A plain AARQ: V's is accepted.
+fn accept_from(
+    line: LineState,
+    client: Client,
+    head: Head,
+    proposed: [u8; 3],
+    out: &mut [u8],
+) -> Told
+    requires { ⌜ HasRoom (now out) ⌝ }
+    ensures { λ r. ⌜ Tells (plainFrom (lineOf line) client head proposed) line (now (out .entry)) (now (out .exit)) r ⌝ }
+{
+    match client {
+        Client::Verification => accept_plain(line, head, proposed, out),
+        Client::Ciphering(_) => reject_aarq(line, client, head, out),
+    }
+}
+
+// One with an envelope: that of a client that ciphers is opened.
+fn open_from(
+    line: LineState,
+    secrets: Secrets,
+    client: Client,
+    head: Head,
+    challenge: [u8; 8],
+    envelope: &[u8],
+    out: &mut [u8],
+) -> Told
+    requires { ⌜ HasRoom (now out) ⌝ }
+    ensures { λ r. ⌜ Tells (cipheredFrom (lineOf line) secrets client head challenge (now (envelope .entry))) line (now (out .entry)) (now (out .exit)) r ⌝ }
+{
+    match client {
+        Client::Verification => reject_aarq(line, client, head, out),
+        Client::Ciphering(c) => open_request(line, secrets, c, head, challenge, envelope, out),
     }
 }
 
@@ -82,20 +119,21 @@ fn accept_plain(line: LineState, head: Head, proposed: [u8; 3], out: &mut [u8]) 
     }
 }
 
-// The envelope of H's AARQ, with H's challenge.
+// The envelope of the AARQ, with the client's challenge.
 fn open_request(
     line: LineState,
     secrets: Secrets,
+    client: CipherClient,
     head: Head,
     challenge: [u8; 8],
     envelope: &[u8],
     out: &mut [u8],
 ) -> Told
     requires { ⌜ HasRoom (now out) ⌝ }
-    ensures { λ r. ⌜ Tells (enclosed (lineOf line) secrets head challenge (opened (lentKeys secrets) (lineOf line .han .peer .title) 0x21 (now (envelope .entry)))) line (now (out .entry)) (now (out .exit)) r ⌝ }
+    ensures { λ r. ⌜ Tells (enclosed (lineOf line) secrets client head challenge (opened (lentKeys secrets) (ciphering client (lineOf line) .peer .title) 0x21 (now (envelope .entry)))) line (now (out .entry)) (now (out .exit)) r ⌝ }
 {
     let keys = association::lent_keys(secrets);
-    let title = association::title_of(line, Client::Han);
+    let title = association::title_of(line, Client::Ciphering(client));
     let mut text = [0u8; LONGEST_APDU];
     let Opening::Opens { counter, size } = envelope::open_envelope(
         keys,
@@ -104,11 +142,12 @@ fn open_request(
         envelope,
         &mut text,
     ) else {
-        return reject_aarq(line, Client::Han, head, out);
+        return reject_aarq(line, Client::Ciphering(client), head, out);
     };
     initiate(
         line,
         secrets,
+        client,
         keys,
         head,
         challenge,
@@ -118,10 +157,11 @@ fn open_request(
     )
 }
 
-// H's opened initiate request, under the keys that opened it.
+// The opened initiate request, under the keys that opened it.
 fn initiate(
     line: LineState,
     secrets: Secrets,
+    client: CipherClient,
     keys: ReadyKeys,
     head: Head,
     challenge: [u8; 8],
@@ -130,7 +170,7 @@ fn initiate(
     out: &mut [u8],
 ) -> Told
     requires { ⌜ HasRoom (now out) ⌝ }
-    ensures { λ r. ⌜ TellsWith keys secrets (initiated (lineOf line) secrets head challenge (now (text .entry)) counter (readRequest (now (text .entry)))) line (now (out .entry)) (now (out .exit)) r ⌝ }
+    ensures { λ r. ⌜ TellsWith keys secrets (initiated (lineOf line) secrets client head challenge (now (text .entry)) counter (readRequest (now (text .entry)))) line (now (out .entry)) (now (out .exit)) r ⌝ }
 {
     let request = acse::read_request(text);
     match request {
@@ -140,6 +180,7 @@ fn initiate(
             accept_ciphered(
                 line,
                 secrets,
+                client,
                 keys,
                 head,
                 challenge,
@@ -149,14 +190,15 @@ fn initiate(
                 out,
             )
         }
-        InitiateRequest::Departs => reject_aarq(line, Client::Han, head, out),
+        InitiateRequest::Departs => reject_aarq(line, Client::Ciphering(client), head, out),
     }
 }
 
-// H is pending: its counter becomes the last accepted, and the meter's next one is used.
+// The client is pending: its counter becomes the last accepted, and the meter's next one is used.
 fn accept_ciphered(
     line: LineState,
     secrets: Secrets,
+    client: CipherClient,
     keys: ReadyKeys,
     head: Head,
     challenge: [u8; 8],
@@ -166,20 +208,21 @@ fn accept_ciphered(
     out: &mut [u8],
 ) -> Told
     requires { ⌜ HasRoom (now out) ⌝ }
-    ensures { λ r. ⌜ TellsWith keys secrets (acceptedCiphered (lineOf line) secrets head challenge key proposed counter) line (now (out .entry)) (now (out .exit)) r ⌝ }
+    ensures { λ r. ⌜ TellsWith keys secrets (acceptedCiphered (lineOf line) secrets client head challenge key proposed counter) line (now (out .entry)) (now (out .exit)) r ⌝ }
 {
     let title = line.title;
-    let han = line.han;
-    let pair = counters::accept(han.counters, counter);
+    let held = association::counters_of(line, client);
+    let pair = counters::accept(held, counter);
     let next = counters::take(pair);
-    let agreed = acse::agreed(Client::Han, proposed);
+    let asking = Client::Ciphering(client);
+    let agreed = acse::agreed(asking, proposed);
     let ours = secrets.challenge;
-    let after = association::pending(line, agreed, key, challenge, ours, next.counters);
+    let after = association::pending(line, client, agreed, key, challenge, ours, next.counters);
     let number = next.number;
     let count = replies::send_accepted_ciphered(
         out,
         head,
-        Client::Han,
+        asking,
         keys,
         title,
         ours,

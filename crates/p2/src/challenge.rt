@@ -1,4 +1,4 @@
-// H's answer to the challenge: its proof tested, the meter's sent.
+// A client's answer to the challenge: its proof tested, the meter's sent.
 use crate::Told;
 use crate::ask::accept_counter;
 use crate::ask::drop_association;
@@ -13,6 +13,7 @@ use envelope::LONGEST_APDU;
 use envelope::ReadyKeys;
 use hdlc::Head;
 use line::LineState;
+use model::CipherClient;
 use model::Client;
 use model::Name;
 use protocol::Secrets;
@@ -21,39 +22,59 @@ ghost use Rattle.cosem.specs.Requests.{readAction};
 ghost use Rattle.envelope.specs.Layout.{keysOf};
 ghost use Rattle.envelope.specs.Challenge.{rightProof};
 ghost use Rattle.line.specs.View.{lineOf};
-ghost use Rattle.protocol.specs.Clients.{meterChallenge};
-ghost use Rattle.protocol.specs.Decide.{answeredChallenge, challenged, challengeEnclosed, disproved, isChallenge, onFirstMethod, proofIn, proved};
+ghost use Rattle.protocol.specs.Clients.{ciphering, counters, held, meterChallenge};
+ghost use Rattle.protocol.specs.Decide.{answeredChallenge, challenged, challengeEnclosed, challengeOf, disproved, isChallenge, ofCiphering, onFirstMethod, proofIn, proved};
 ghost use Rattle.replies.specs.Room.{HasRoom};
 ghost use Rattle.p2.specs.Inner.{Tells, TellsUnder};
 
-// An envelope with the tag of the challenge's answer.
-pub fn hear_challenge(
+// An APDU with the tag of the challenge's answer, which is for clients that cipher.
+pub fn hear_ciphered(
     line: LineState,
     secrets: Secrets,
+    client: Client,
     head: Head,
     apdu: &[u8],
     out: &mut [u8],
 ) -> Told
     requires { ⌜ HasRoom (now out) ⌝ }
-    ensures { λ r. ⌜ Tells (challengeEnclosed (lineOf line) secrets head (now (apdu .entry))) line (now (out .entry)) (now (out .exit)) r ⌝ }
+    ensures { λ r. ⌜ Tells (ofCiphering (lineOf line) client head (λ c. challengeEnclosed (lineOf line) secrets c head (now (apdu .entry)))) line (now (out .entry)) (now (out .exit)) r ⌝ }
 {
-    let han = line.han;
+    match client {
+        Client::Verification => except(line, head, Exception::ServiceNotAllowed, out),
+        Client::Ciphering(c) => hear_challenge(line, secrets, c, head, apdu, out),
+    }
+}
+
+// An envelope with that tag.
+fn hear_challenge(
+    line: LineState,
+    secrets: Secrets,
+    client: CipherClient,
+    head: Head,
+    apdu: &[u8],
+    out: &mut [u8],
+) -> Told
+    requires { ⌜ HasRoom (now out) ⌝ }
+    ensures { λ r. ⌜ Tells (challengeEnclosed (lineOf line) secrets client head (now (apdu .entry))) line (now (out .entry)) (now (out .exit)) r ⌝ }
+{
+    let pair = association::counters_of(line, client);
     let keys = association::lent_keys(secrets);
-    let title = association::title_of(line, Client::Han);
+    let title = association::title_of(line, Client::Ciphering(client));
     let mut text = [0u8; LONGEST_APDU];
-    let admission = envelope::admit_envelope(keys, title, 0xCB, han.counters, apdu, &mut text);
+    let admission = envelope::admit_envelope(keys, title, 0xCB, pair, apdu, &mut text);
     match admission {
         Admission::Unopened => kept(6, line),
-        Admission::OutsideWindow => drop_association(line),
+        Admission::OutsideWindow => drop_association(line, client),
         Admission::Admitted { counter, size } => {
-            answer_challenge(line, keys, head, counter, &text[0..size], out)
+            answer_challenge(line, client, keys, head, counter, &text[0..size], out)
         }
     }
 }
 
-// An opened APDU while H is pending.
+// An opened APDU while the client is pending.
 fn answer_challenge(
     line: LineState,
+    client: CipherClient,
     keys: ReadyKeys,
     head: Head,
     counter: u32,
@@ -61,21 +82,22 @@ fn answer_challenge(
     out: &mut [u8],
 ) -> Told
     requires { ⌜ HasRoom (now out) ⌝ }
-    ensures { λ r. ⌜ TellsUnder keys (λ a. answeredChallenge (lineOf line) a head counter (now (text .entry)) (readAction (now (text .entry)))) line (now (out .entry)) (now (out .exit)) r ⌝ }
+    ensures { λ r. ⌜ TellsUnder keys (λ a. answeredChallenge (lineOf line) a client head counter (now (text .entry)) (readAction (now (text .entry)))) line (now (out .entry)) (now (out .exit)) r ⌝ }
 {
     let reading = cosem::read_action(text);
     match reading {
-        Reading::Asks(request) => judge(line, keys, head, counter, text, request, out),
+        Reading::Asks(request) => judge(line, client, keys, head, counter, text, request, out),
         Reading::Malformed => {
-            let next = accept_counter(line, counter);
+            let next = accept_counter(line, client, counter);
             except(next, head, Exception::ServiceUnknown, out)
         }
     }
 }
 
-// An ACTION while H is pending.
+// An ACTION while the client is pending.
 fn judge(
     line: LineState,
+    client: CipherClient,
     keys: ReadyKeys,
     head: Head,
     counter: u32,
@@ -84,35 +106,44 @@ fn judge(
     out: &mut [u8],
 ) -> Told
     requires { ⌜ HasRoom (now out) ⌝ }
-    ensures { λ r. ⌜ TellsUnder keys (λ a. challenged (lineOf line) a head counter (now (text .entry)) request) line (now (out .entry)) (now (out .exit)) r ⌝ }
+    ensures { λ r. ⌜ TellsUnder keys (λ a. challenged (lineOf line) a client head counter (now (text .entry)) request) line (now (out .entry)) (now (out .exit)) r ⌝ }
 {
-    if !is_challenge(text, request) {
-        let next = accept_counter(line, counter);
+    if !is_challenge(client, text, request) {
+        let next = accept_counter(line, client, counter);
         return except(next, head, Exception::ServiceNotAllowed, out);
     }
     let invoke = request.invoke;
-    if proves_itself(line, keys, counter, text, request) {
-        return prove(line, keys, head, invoke, counter, out);
+    if proves_itself(line, client, keys, counter, text, request) {
+        return prove(line, client, keys, head, invoke, counter, out);
     }
-    disprove(line, keys, head, invoke, counter, out)
+    disprove(line, client, keys, head, invoke, counter, out)
 }
 
 // Whether a request is the ACTION that answers the challenge.
-fn is_challenge(text: &[u8], request: Asked) -> bool
-    ensures { λ r. ⌜ r ≡ isChallenge (now (text .entry)) request ⌝ }
+fn is_challenge(client: CipherClient, text: &[u8], request: Asked) -> bool
+    ensures { λ r. ⌜ r ≡ isChallenge client (now (text .entry)) request ⌝ }
 {
     if request.class != 15 {
         return false;
     }
-    let own = Name {
-        bytes: [0, 0, 40, 0, 4, 255],
-    };
+    let own = challenge_of(client);
     let name = cosem::name_in(text);
     if !names::same_name(own, name) {
         return false;
     }
     let wanted = request.wanted;
     is_first_method(wanted)
+}
+
+// The name of the object that the client answers the challenge at.
+fn challenge_of(client: CipherClient) -> Name
+    ensures { λ r. ⌜ r ≡ challengeOf client ⌝ }
+{
+    match client {
+        CipherClient::Han => Name {
+            bytes: [0, 0, 40, 0, 4, 255],
+        },
+    }
 }
 
 // Whether method 1 is wanted.
@@ -131,22 +162,23 @@ fn is_first_method(wanted: Wanted) -> bool
     }
 }
 
-// Whether the parameter is H's right proof.
+// Whether the parameter is the client's right proof.
 fn proves_itself(
     line: LineState,
+    client: CipherClient,
     keys: ReadyKeys,
     counter: u32,
     text: &[u8],
     request: Asked,
 ) -> bool
-    ensures { λ r. ⌜ r ≡ rightProof (keysOf keys) (lineOf line .han .peer .title) (meterChallenge (lineOf line .han .peer .association)) (lineOf line .han .counters .accepted) counter (proofIn (now (text .entry)) (request .wanted)) ⌝ }
+    ensures { λ r. ⌜ r ≡ rightProof (keysOf keys) (ciphering client (lineOf line) .peer .title) (meterChallenge (held client (lineOf line))) (counters client (lineOf line) .accepted) counter (proofIn (now (text .entry)) (request .wanted)) ⌝ }
 {
-    let title = association::title_of(line, Client::Han);
-    let challenge = association::meter_challenge(line);
-    let han = line.han;
+    let title = association::title_of(line, Client::Ciphering(client));
+    let challenge = association::meter_challenge(line, client);
+    let pair = association::counters_of(line, client);
     let wanted = request.wanted;
     let proof = proof_in(text, wanted);
-    envelope::is_right_proof(keys, title, challenge, han.counters, counter, proof)
+    envelope::is_right_proof(keys, title, challenge, pair, counter, proof)
 }
 
 // The parameter of a request; none is empty.
@@ -165,9 +197,10 @@ fn proof_in(text: &[u8], wanted: Wanted) -> &[u8]
     }
 }
 
-// A right proof: the meter's goes out, and H is associated. The proof takes a counter before its envelope.
+// A right proof: the meter's goes out, and the client is associated. The proof takes a counter before its envelope.
 fn prove(
     line: LineState,
+    client: CipherClient,
     keys: ReadyKeys,
     head: Head,
     invoke: u8,
@@ -175,15 +208,15 @@ fn prove(
     out: &mut [u8],
 ) -> Told
     requires { ⌜ HasRoom (now out) ⌝ }
-    ensures { λ r. ⌜ TellsUnder keys (λ a. proved (lineOf line) a head invoke counter) line (now (out .entry)) (now (out .exit)) r ⌝ }
+    ensures { λ r. ⌜ TellsUnder keys (λ a. proved (lineOf line) a client head invoke counter) line (now (out .entry)) (now (out .exit)) r ⌝ }
 {
     let title = line.title;
-    let han = line.han;
-    let pair = counters::accept(han.counters, counter);
+    let held = association::counters_of(line, client);
+    let pair = counters::accept(held, counter);
     let first = counters::take(pair);
     let second = counters::take(first.counters);
-    let challenge = association::client_challenge(line);
-    let next = association::associated_ciphered(line, second.counters);
+    let challenge = association::client_challenge(line, client);
+    let next = association::associated_ciphered(line, client, second.counters);
     let count = replies::send_proof(
         out,
         head,
@@ -201,9 +234,10 @@ fn prove(
     }
 }
 
-// A wrong proof: code 250 goes out, and H's association ends.
+// A wrong proof: code 250 goes out, and the client's association ends.
 fn disprove(
     line: LineState,
+    client: CipherClient,
     keys: ReadyKeys,
     head: Head,
     invoke: u8,
@@ -211,14 +245,14 @@ fn disprove(
     out: &mut [u8],
 ) -> Told
     requires { ⌜ HasRoom (now out) ⌝ }
-    ensures { λ r. ⌜ TellsUnder keys (λ a. disproved (lineOf line) a head invoke counter) line (now (out .entry)) (now (out .exit)) r ⌝ }
+    ensures { λ r. ⌜ TellsUnder keys (λ a. disproved (lineOf line) a client head invoke counter) line (now (out .entry)) (now (out .exit)) r ⌝ }
 {
     let title = line.title;
-    let han = line.han;
-    let pair = counters::accept(han.counters, counter);
+    let held = association::counters_of(line, client);
+    let pair = counters::accept(held, counter);
     let first = counters::take(pair);
-    let advanced = association::with_counters(line, first.counters);
-    let next = association::ended(advanced, Client::Han);
+    let advanced = association::with_counters(line, client, first.counters);
+    let next = association::ended(advanced, Client::Ciphering(client));
     let number = first.number;
     let count = replies::send_denial(out, head, keys, title, invoke, 250, number);
     Told {

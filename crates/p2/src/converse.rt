@@ -1,10 +1,10 @@
 // An APDU on a link: whether the link is up, what the association permits, then by its tag.
 use crate::Received;
 use crate::Told;
-use crate::ask::ask_enclosed;
+use crate::ask::ask_ciphered;
 use crate::ask::ask_plain;
 use crate::associate::associate;
-use crate::challenge::hear_challenge;
+use crate::challenge::hear_ciphered;
 use crate::ending::except;
 use crate::ending::joined;
 use crate::links::refuse;
@@ -85,9 +85,12 @@ fn by_tag(
         Tag::Aarq => joined(associate(line, secrets, client, head, apdu, out), meter),
         Tag::Rlrq => joined(release(line, client, head, apdu, out), meter),
         Tag::GetRequest => ask_plain(meter, client, head, apdu, out),
-        Tag::GloActionRequest => joined(hear_challenge(line, secrets, head, apdu, out), meter),
+        Tag::GloActionRequest => joined(
+            hear_ciphered(line, secrets, client, head, apdu, out),
+            meter,
+        ),
         Tag::DedGetRequest | Tag::DedActionRequest => {
-            ask_enclosed(meter, secrets, head, request_byte(tag), apdu, out)
+            ask_ciphered(meter, secrets, client, head, request_byte(tag), apdu, out)
         }
         Tag::SetRequest => joined(except(line, head, Exception::ServiceNotAllowed, out), meter),
         Tag::ActionRequest => joined(except(line, head, Exception::ServiceNotAllowed, out), meter),

@@ -9,7 +9,8 @@ use lib.Dec.{eqb, ltb}
 use lib.ListN.{length, take, drop, length-append}
 use borrow.Author.Tests.{eqb-true, eqb-false, ltb-true, not-false}
 use Rattle.model.specs.declared.Client.{Client}
-use Rattle.model.specs.declared.Client.the-variants.{Verification, Han}
+use Rattle.model.specs.declared.Client.the-variants.{Verification, Ciphering}
+use Rattle.model.specs.declared.CipherClient.{CipherClient}
 use Rattle.model.specs.Limits.{longestSent, replyRoom, apduRoom, textRoom}
 use Rattle.model.specs.Periods.{listed}
 use Rattle.model.specs.State.{Line, Model}
@@ -41,11 +42,11 @@ use Rattle.counters.specs.Advance.{taken}
 use Rattle.counters.specs.Window.{accepting}
 use Rattle.envelope.specs.Layout.{sealedEnvelope}
 use Rattle.envelope.proofs.CloseLaws.{length-envelope, envelope-size, envelope-fits}
-use Rattle.protocol.specs.Clients.{selectiveIn, lentKeys}
+use Rattle.protocol.specs.Clients.{counters, selectiveIn, lentKeys}
 use Rattle.protocol.specs.Rulings.{Ruling, decision}
 use Rattle.protocol.specs.Decide.{wrap, accepted, advanced, disproved, heard, around, seal, secretsOf, ruled, p2}
-use Rattle.protocol.specs.Outcomes.{Enclosed, get, action, Framed, Answers}
-use Rattle.protocol.proofs.Lengths.{aroundLength, length-around}
+use Rattle.protocol.specs.Outcomes.{Framed, Answers}
+use Rattle.protocol.proofs.Lengths.{length-around}
 use Rattle.protocol.proofs.Outcomes.{FrameNumber, four, five, eight, nine, frame-number, row-lent}
 use Rattle.protocol.proofs.Ruled as by
 use Rattle.protocol.proofs.Turns.{turned-some, turned-fits}
@@ -149,20 +150,17 @@ module _ (f : List ℕ) (odd : Odd f) (meter : byte f 3 ≡ meterAddress) where
       (λ c to e. all-pass (clientSide c) (apduFrame (headOf f) bs) frameTests (reply-passes c (headOf f) to meter bs some (omega arith)))
 
   -- the body's answer, to V and to H
-  framed-plain : (l : Line) (ak text : List ℕ) → 0 < length text → length text ≤ textRoom longestSent → Framed f (seal l (wrap ak (headOf f) 0xC0) text)
-  unfolding seal aroundLength
+  framed-plain : (l : Line) (ak text : List ℕ) → 0 < length text → length text ≤ textRoom longestSent → Framed f (seal l (wrap ak Verification (headOf f) 0xC0) text)
+  unfolding seal
   framed-plain l ak text some h =
-      let n = length-around l (wrap ak (headOf f) 0xC0) text in
-      framed-apdu (around l (wrap ak (headOf f) 0xC0) text) (omega arith) (omega (arith, apdu-room, text-room))
+      let n = length-around l (wrap ak Verification (headOf f) 0xC0) text in
+      framed-apdu (around l (wrap ak Verification (headOf f) 0xC0) text) (omega arith) (omega (arith, apdu-room, text-room))
 
-  framed-inside : (l : Line) (ak text : List ℕ) {tag : ℕ} → Enclosed tag → length text ≤ textRoom longestSent → Framed f (seal l (wrap ak (headOf f) tag) text)
-  unfolding seal aroundLength
-  framed-inside l ak text get h =
-      let n = length-around l (wrap ak (headOf f) 0xD0) text in
-      framed-apdu (around l (wrap ak (headOf f) 0xD0) text) (omega (arith, envelope-size (length text))) (omega (arith, envelope-fits (length text) h))
-  framed-inside l ak text action h =
-      let n = length-around l (wrap ak (headOf f) 0xD3) text in
-      framed-apdu (around l (wrap ak (headOf f) 0xD3) text) (omega (arith, envelope-size (length text))) (omega (arith, envelope-fits (length text) h))
+  framed-inside : (c : CipherClient) (l : Line) (ak text : List ℕ) (tag : ℕ) → length text ≤ textRoom longestSent → Framed f (seal l (wrap ak (Ciphering c) (headOf f) tag) text)
+  unfolding seal
+  framed-inside c l ak text tag h =
+      let n = length-around l (wrap ak (Ciphering c) (headOf f) tag) text in
+      framed-apdu (around l (wrap ak (Ciphering c) (headOf f) tag) text) (omega (arith, envelope-size (length text))) (omega (arith, envelope-fits (length text) h))
 
 abbrev answeredNumbers : List ℕ
 answeredNumbers = 0 ∷ 8 ∷ 9 ∷ 10 ∷ 11 ∷ 12 ∷ 13 ∷ []
@@ -193,19 +191,19 @@ module _ (a : Lent) (m : Model) (title : length (m .line .title) ≡ 8) (challen
   framed-ruled odd meter (by.departs c from) e = let n = length-rejected c in framed-apdu f odd meter (rejectedAare c) (omega arith) (omega (arith, apdu-room))
   framed-ruled odd meter (by.excepts t x n) e = let n = length-exception x in framed-apdu f odd meter (exceptionBytes x) (omega arith) (omega (arith, apdu-room))
   framed-ruled odd meter (by.exceptsInside t x counter n from o w) e = let n = length-exception x in framed-apdu f odd meter (exceptionBytes x) (omega arith) (omega (arith, apdu-room))
-  framed-ruled odd meter (by.disproves invoke counter from o w) e =
-      let number = taken (accepting (l .han .counters) counter) .number in
+  framed-ruled odd meter (by.disproves invoke counter {c} from o w) e =
+      let number = taken (accepting (counters c l) counter) .number in
       let text = actionAnswer invoke (denied 250) in
       let n = length-envelope (lentKeys (secretsOf a)) (l .title) 0xCF number text in
       framed-apdu f odd meter (sealedEnvelope (lentKeys (secretsOf a)) (l .title) 0xCF number text) (omega (arith, envelope-size 5))
       (omega (arith, envelope-fits 5 (omega (arith, text-room))))
   framed-ruled odd meter (by.links after) e = framed-bare f odd ua [] (omega arith) (λ q. omega arith)
-  framed-ruled odd meter (by.tells bs after fits) e = framed-apdu f odd meter bs (fits title challenge .0) (fits title challenge .1)
+  framed-ruled odd meter (by.tells r bs after e fits) i = rw e (framed-apdu f odd meter bs (fits title challenge .0) (fits title challenge .1))
   framed-ruled odd meter (by.serves s q from) e =
       let r = requested Verification (selectiveIn Verification l) s q in
       framed-plain f odd meter l (a .ak) _ (turned-some r (m .body)) (turned-fits r (m .body))
-  framed-ruled odd meter (by.servesInside tag s q counter k from o w) e =
-      framed-inside f odd meter (advanced (accepted counter l)) (a .ak) _ k (turned-fits (requested Han (selectiveIn Han l) s q) (m .body))
+  framed-ruled odd meter (by.servesInside tag s q counter k {c} from o w) e =
+      framed-inside f odd meter c (advanced c (accepted c counter l)) (a .ak) _ tag (turned-fits (requested (Ciphering c) (selectiveIn (Ciphering c) l) s q) (m .body))
 
   framed-passed : AllPass meterSide f frameTests → {r : Ruling} → by.Ruled l (secretsOf a) f r → Sends (decided p2 (decision r) m)
   framed-passed p r = framed-ruled (odd-all f p) (meter-all f p) r

@@ -15,7 +15,8 @@ use Rattle.wire.specs.declared.End.the-variants.{At}
 use Rattle.wire.specs.declared.Field.the-variants.{Found}
 use Rattle.wire.proofs.NumberLaws.{number-one}
 use Rattle.wire.proofs.ReadingLaws.{number-here, skip-here}
-use Rattle.model.specs.declared.Client.the-variants.{Han}
+use Rattle.model.specs.declared.Client.the-variants.{Ciphering}
+use Rattle.model.specs.declared.CipherClient.the-variants.{Han}
 use Rattle.model.specs.Limits.{longestSent, longestReceived, leastSize, envelopeLength, greatestApdu}
 use Rattle.model.specs.Services.{offered, common}
 use Rattle.model.specs.State.{pending, Line, Model, withLine}
@@ -91,7 +92,7 @@ module _ (title challenge envelope : List ℕ) (eight : length title ≡ 8) (eig
   abbrev aarq : List ℕ
   aarq = aarqOfH title challenge envelope
 
-  aarq-written : aarq ≡ written (cipheredAarq Han title) (challenge ∷ envelope ∷ [])
+  aarq-written : aarq ≡ written (cipheredAarq (Ciphering Han) title) (challenge ∷ envelope ∷ [])
   unfolding aarqOfH
   aarq-written = simp (append-assoc, append-nil)
 
@@ -103,16 +104,16 @@ module _ (title challenge envelope : List ℕ) (eight : length title ≡ 8) (eig
   unfolding aarqOfH tagOf
   tag-aarq = tag-first 0x60 _
 
-  aarq-read : readAarq aarq Han title ≡ Ciphered 42 54
-  aarq-read = rw aarq-written (ciphered-accepted Han title challenge envelope refl eight' fifty)
+  aarq-read : readAarq aarq (Ciphering Han) title ≡ Ciphered 42 54
+  aarq-read = rw aarq-written (ciphered-accepted (Ciphering Han) title challenge envelope refl eight' fifty)
 
   aarq-challenge : take 8 (drop 42 aarq) ≡ challenge
-  aarq-challenge = rw aarq-written (challenge-there Han title challenge envelope eight eight')
+  aarq-challenge = rw aarq-written (challenge-there (Ciphering Han) title challenge envelope eight eight')
 
   aarq-envelope : drop 54 aarq ≡ envelope
   aarq-envelope =
       sym (take-all 50 (drop 54 aarq) (simp length-drop (omega (arith, length-aarq))))
-      ∙ rw aarq-written (envelope-there Han title challenge envelope eight eight' fifty)
+      ∙ rw aarq-written (envelope-there (Ciphering Han) title challenge envelope eight eight' fifty)
 
 -- on a line with H's link up and no association
 module _ (l : Line) (a : Secrets) (h : Head) (challenge key services size : List ℕ) (counter : ℕ) where
@@ -120,8 +121,8 @@ module _ (l : Line) (a : Secrets) (h : Head) (challenge key services size : List
   title = l .han .peer .title
 
   aarq-carried : length title ≡ 8 → length challenge ≡ 8 → length key ≡ 16 → length services ≡ 3 → length size ≡ 2 → leastSize longestSent ≤ numberHigh size → counter < 256 ^ 4
-      → carried (up Han l) a Han h (aarqOfH title challenge (sealedEnvelope (lentKeys a) title 0x21 counter (initiateOfH key services size)))
-      ≡ acceptedCiphered (up Han l) a h challenge key services counter
+      → carried (up (Ciphering Han) l) a (Ciphering Han) h (aarqOfH title challenge (sealedEnvelope (lentKeys a) title 0x21 counter (initiateOfH key services size)))
+      ≡ acceptedCiphered (up (Ciphering Han) l) a Han h challenge key services counter
   unfolding carried conversed longestApdu greatestApdu longestReceived
   aarq-carried eight eight' sixteen three two least small =
       let text = initiateOfH key services size in
@@ -203,7 +204,7 @@ module _ (invoke : ℕ) (rest : List ℕ) (size : length rest ≡ 17) where
   unfolding proofOfH sameBytes
   name-same = refl
 
-  is-challenge : isChallenge action asked ≡ true
+  is-challenge : isChallenge Han action asked ≡ true
   unfolding isChallenge
   is-challenge = rw (name-here action (omega (arith, length-action))) name-same
 
@@ -231,7 +232,7 @@ module _ (l : Line) (a : Secrets) (h : Head) {agreed key client meter : List ℕ
   from = l .han .peer .title
 
   proof-carried : inWindow (l .han .counters .accepted) outer ≡ true → innerAllowed (l .han .counters .accepted) outer inner ≡ true → inner < 256 ^ 4 → outer < 256 ^ 4
-      → carried l a Han h (sealedEnvelope k from 0xCB outer (proofOfH invoke (proofValue k from meter inner))) ≡ proved l a h invoke outer
+      → carried l a (Ciphering Han) h (sealedEnvelope k from 0xCB outer (proofOfH invoke (proofValue k from meter inner))) ≡ proved l a Han h invoke outer
   unfolding carried conversed challengeEnclosed challenged provesItself tagOf longestApdu greatestApdu longestReceived envelopeLength lengthField
   proof-carried w i small small' =
       let rest = proof-rest k from meter inner in
@@ -256,36 +257,36 @@ module _ (l : Line) (a : Secrets) (h : Head) {agreed key client meter : List ℕ
 -- the line after the AARQ
 abbrev asked-line : Line → Entrance → (challenge : List ℕ) → Line
 asked-line l e challenge =
-    withCounters (taken (accepting (l .han .counters) (e .first)) .counters)
-    (associates Han (pending (common (e .services) (offered Han)) (e .key) (e .challenge) challenge) (up Han l))
+    withCounters Han (taken (accepting (l .han .counters) (e .first)) .counters)
+    (associates (Ciphering Han) (pending (common (e .services) (offered (Ciphering Han))) (e .key) (e .challenge) challenge) (up (Ciphering Han) l))
 
 module _ (m : Model) (e : Entrance) (link aarq proof : Lent) (s : sound m ≡ true) (eight : length (m .line .han .peer .title) ≡ 8) (enough₁ : Enough link) (enough₂ : Enough aarq) (enough₃ : Enough proof) (ok : Allowed e) (enters : Enters (m .line .han .peer .title) e link aarq proof) where
   abbrev l : Line
   l = m .line
 
   abbrev m₁ : Model
-  m₁ = withLine (up Han l) m
+  m₁ = withLine (up (Ciphering Han) l) m
 
   abbrev m₂ : Model
   m₂ = withLine (asked-line l e (aarq .challenge)) m
 
   -- the AARQ on the first, and the challenge on the second
-  aarq-outcome : outcome aarq m₁ ≡ decided p2 (decision (acceptedCiphered (up Han l) (secretsOf aarq) (headIn aarq) (e .challenge) (e .key) (e .services) (e .first))) m₁
+  aarq-outcome : outcome aarq m₁ ≡ decided p2 (decision (acceptedCiphered (up (Ciphering Han) l) (secretsOf aarq) Han (headIn aarq) (e .challenge) (e .key) (e .services) (e .first))) m₁
   unfolding longestReceived
   aarq-outcome =
       let from = l .han .peer .title in
       let env = sealedEnvelope (lentKeys (secretsOf aarq)) from 0x21 (e .first) (initiateOfH (e .key) (e .services) (e .size)) in
       let fifty = length-enclosed (e .key) (e .services) (e .size) (ok .key) (ok .services) (ok .size) (lentKeys (secretsOf aarq)) from (e .first) in
       let long = length-aarq from (e .challenge) env eight (ok .challenge) fifty in
-      let reached = ruled-request (up Han l) aarq Han (aarqOfH from (e .challenge) env) (enters .asks) (omega arith) (omega arith) in
+      let reached = ruled-request (up (Ciphering Han) l) aarq (Ciphering Han) (aarqOfH from (e .challenge) env) (enters .asks) (omega arith) (omega arith) in
       let carries = aarq-carried l (secretsOf aarq) (headIn aarq) (e .challenge) (e .key) (e .services) (e .size) (e .first) eight (ok .challenge) (ok .key) (ok .services) (ok .size) (ok .enough) (omega (arith, ok .above, ok .below, ok .small)) in
-      outcome-ruled aarq m₁ enough₂ (up-sound Han m link s refl enough₁ (enters .links)) ∙ ap (λ (r : Ruling). decided p2 (decision r) m₁) (reached ∙ carries)
+      outcome-ruled aarq m₁ enough₂ (up-sound (Ciphering Han) m link s refl enough₁ (enters .links)) ∙ ap (λ (r : Ruling). decided p2 (decision r) m₁) (reached ∙ carries)
 
   second-sound : sound m₂ ≡ true
   unfolding acceptedCiphered
-  second-sound = ap (λ (o : Outcome). sound (o .next)) (sym aarq-outcome) ∙ p2-stays-sound (frameCall aarq) m₁ (up-sound Han m link s refl enough₁ (enters .links))
+  second-sound = ap (λ (o : Outcome). sound (o .next)) (sym aarq-outcome) ∙ p2-stays-sound (frameCall aarq) m₁ (up-sound (Ciphering Han) m link s refl enough₁ (enters .links))
 
-  proof-outcome : outcome proof m₂ ≡ decided p2 (decision (proved (asked-line l e (aarq .challenge)) (secretsOf proof) (headIn proof) (e .invoke) (e .outer))) m₂
+  proof-outcome : outcome proof m₂ ≡ decided p2 (decision (proved (asked-line l e (aarq .challenge)) (secretsOf proof) Han (headIn proof) (e .invoke) (e .outer))) m₂
   unfolding longestReceived inWindow innerAllowed taken accepting envelopeLength lengthField
   proof-outcome =
       let from = l .han .peer .title in
@@ -297,14 +298,14 @@ module _ (m : Model) (e : Entrance) (link aarq proof : Lent) (s : sound m ≡ tr
       let inner : innerAllowed (e .first) (e .outer) (e .inner) ≡ true = rw (lt-ltb (e .first) (e .inner) (ok .above), lt-ltb (e .inner) (e .outer) (ok .below)) in
       let size : length text ≡ 32 = rw (proof-form k from (aarq .challenge) (e .inner)) (length-action (e .invoke) (proof-rest k from (aarq .challenge) (e .inner)) (length-rest k from (aarq .challenge) (e .inner))) in
       let long : length env ≡ 51 = length-envelope k from 0xCB (e .outer) text ∙ rw size in
-      let reached = ruled-request (asked-line l e (aarq .challenge)) proof Han env (enters .proves) (omega arith) (omega arith) in
+      let reached = ruled-request (asked-line l e (aarq .challenge)) proof (Ciphering Han) env (enters .proves) (omega arith) (omega arith) in
       let carries = proof-carried (asked-line l e (aarq .challenge)) (secretsOf proof) (headIn proof) refl refl (e .invoke) (e .inner) (e .outer) window inner (omega (arith, ok .below, ok .small)) (ok .small) in
       outcome-ruled proof m₂ enough₃ second-sound ∙ ap (λ (r : Ruling). decided p2 (decision r) m₂) (reached ∙ carries)
 
   let-in : LetInH m e link aarq proof
   unfolding acceptedCiphered proved taken accepting
   let-in =
-      let first = up-outcome Han m link s refl enough₁ (enters .links) in
+      let first = up-outcome (Ciphering Han) m link s refl enough₁ (enters .links) in
       let second = ap (λ (o : Outcome). outcome aarq (o .next)) first ∙ aarq-outcome in
       let third = ap (λ (o : Outcome). outcome proof (o .next)) second ∙ proof-outcome in
       record {

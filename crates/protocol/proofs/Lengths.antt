@@ -1,39 +1,39 @@
 -- How long a reply is depends on how long the body's answer is, and on nothing else of it.
 use mathlib.Core.Path.{_≡_, refl, sym, _∙_, ap}
-use mathlib.Core.Bool.{Bool, true, false, cond}
-use mathlib.Core.List.{List, [], _++_}
+use mathlib.Core.List.{List, _++_}
 use Prim.Native.Nat.{ℕ, _+_}
 use native.Mathlib.Omega.{arith}
-use lib.Dec.{eqb}
 use lib.ListN.{length, length-append}
+use Rattle.model.specs.declared.Client.{Client}
+use Rattle.model.specs.declared.Client.the-variants.{Verification, Ciphering}
 use Rattle.model.specs.State.{Line}
 use Rattle.model.specs.Limits.{envelopeLength}
 use Rattle.model.specs.Calls.{Wrap, KeepsLengths}
 use Rattle.hdlc.specs.Layout.{ui}
 use Rattle.hdlc.specs.Tests.{replyLlc}
 use Rattle.hdlc.proofs.LayoutLaws.{length-full}
-use Rattle.envelope.specs.Layout.{sealedEnvelope}
 use Rattle.envelope.proofs.CloseLaws.{length-envelope}
-use Rattle.protocol.specs.Clients.{dedicatedKeys}
-use Rattle.protocol.specs.Decide.{answerTag, around, seal, p2}
+use Rattle.protocol.specs.Clients.{counters, dedicatedKeys}
+use Rattle.protocol.specs.Decide.{answerTag, aroundFor, around, seal, p2}
 
--- the bytes around an answer of n bytes: none for V, an envelope for H
-unfoldable pub aroundLength : Wrap → ℕ → ℕ
-aroundLength w n = cond (eqb (w .tag) 0xC0) n (envelopeLength n)
+-- the bytes around an answer of n bytes: none for V, an envelope for a client that ciphers
+abbrev pub aroundLength : Client → ℕ → ℕ
+aroundLength Verification n = n
+aroundLength (Ciphering c) n = envelopeLength n
 
-pub length-around : (l : Line) (w : Wrap) (text : List ℕ) → length (around l w text) ≡ aroundLength w (length text)
-unfolding around aroundLength
-length-around l w text = go (eqb (w .tag) 0xC0)
+pub length-around : (l : Line) (w : Wrap) (text : List ℕ) → length (around l w text) ≡ aroundLength (w .client) (length text)
+unfolding around
+length-around l w text = go (w .client)
   where
-    go : (b : Bool) → length (cond b text (sealedEnvelope (dedicatedKeys (w .ak) l) (l .title) (answerTag (w .tag)) (l .han .counters .sent) text)) ≡ cond b (length text) (envelopeLength (length text))
-    go true = refl
-    go false = length-envelope (dedicatedKeys (w .ak) l) (l .title) (answerTag (w .tag)) (l .han .counters .sent) text
+    go : (c : Client) → length (aroundFor l w c text) ≡ aroundLength c (length text)
+    go Verification = refl
+    go (Ciphering c) = length-envelope (dedicatedKeys (w .ak) c l) (l .title) (answerTag (w .tag)) (counters c l .sent) text
 
-pub length-seal : (l : Line) (w : Wrap) (text : List ℕ) → length (seal l w text) ≡ aroundLength w (length text) + 14
+pub length-seal : (l : Line) (w : Wrap) (text : List ℕ) → length (seal l w text) ≡ aroundLength (w .client) (length text) + 14
 unfolding seal
 length-seal l w text =
     let e : length (replyLlc ++ around l w text) ≡ 3 + length (around l w text) = length-append replyLlc (around l w text) in
     length-full (w .destination) (w .source) ui (replyLlc ++ around l w text) (omega arith) ∙ omega (arith, length-around l w text)
 
 pub keeps-lengths : KeepsLengths p2
-keeps-lengths l w xs ys e = length-seal l w xs ∙ ap (λ (n : ℕ). aroundLength w n + 14) e ∙ sym (length-seal l w ys)
+keeps-lengths l w xs ys e = length-seal l w xs ∙ ap (λ (n : ℕ). aroundLength (w .client) n + 14) e ∙ sym (length-seal l w ys)

@@ -1,5 +1,6 @@
 pub mod Lengths
 pub mod Numbers
+pub mod LineLaws
 pub mod Lines
 pub mod Examples
 pub mod Claim

@@ -3,10 +3,11 @@ use mathlib.Core.Path.{_≡_, refl}
 use mathlib.Core.Bool.{Bool, true, false, cond, not, _&&_, or-true, false≢true}
 use mathlib.Core.List.{List, []}
 use Prim.Native.Nat.{ℕ}
-use native.Mathlib.Omega.{arith}
 use lib.ListN.{take, drop}
 use Rattle.model.specs.declared.Client.{Client}
-use Rattle.model.specs.declared.Client.the-variants.{Verification, Han}
+use Rattle.model.specs.declared.CipherClient.{CipherClient}
+use Rattle.model.specs.declared.Client.the-variants.{Verification, Ciphering}
+use Rattle.model.specs.declared.CipherClient.the-variants.{Han}
 use Rattle.model.specs.declared.Counters.{Counters}
 use Rattle.model.specs.Services.{offered, common}
 use Rattle.model.specs.State.{Association, none, pending, associated, Peer, Line}
@@ -33,14 +34,13 @@ use Rattle.acse.specs.declared.InitiateRequest.{InitiateRequest}
 use Rattle.acse.specs.declared.InitiateRequest.the-variants.{Accepted, Departs as RequestDeparts}
 use Rattle.acse.specs.Clients.{ciphers}
 use Rattle.acse.specs.Initiate.{readRequest}
-use Rattle.acse.specs.Aarq.{plainAarq, cipheredAarq, readAarq}
-use Rattle.acse.specs.Pieces.{isLaid}
+use Rattle.acse.specs.Aarq.{readAarq}
 use Rattle.acse.proofs.ServiceLaws.{common-within}
 use Rattle.envelope.specs.Opening.{Opened, fails, opens, opened}
 use Rattle.protocol.specs.declared.Secrets.{Secrets}
-use Rattle.protocol.specs.Clients.{peer, withPeer, linked, associates, withAssociation, withCounters, agreedIn, keyIn, lentKeys, dedicatedKeys, isPending, permitted, bitAgreed, isUnknown}
+use Rattle.protocol.specs.Clients.{ciphering, peer, withPeer, linked, associates, withAssociation, counters, withCounters, held, agreedIn, keyIn, lentKeys, dedicatedKeys, isPending, permitted, bitAgreed, isUnknown}
 use Rattle.protocol.specs.Rulings.{Ruling, decision}
-use Rattle.protocol.specs.Decide.{heldByP5, linkUp, linkDown, acceptedPlain, acceptedCiphered, initiated, enclosed, associating, released, asked, askedInside, readInside, isChallenge, provesItself, proved, disproved, challenged, answeredChallenge, admitted, challengeEnclosed, requestEnclosed, byTag, conversed, carried, heard, secretsOf, ruled, decide, p2}
+use Rattle.protocol.specs.Decide.{heldByP5, linkUp, linkDown, acceptedPlain, acceptedCiphered, initiated, enclosed, associating, released, asked, askedInside, readInside, isChallenge, provesItself, proved, disproved, challenged, answeredChallenge, admitted, challengeEnclosed, requestEnclosed, ofCiphering, byTag, conversed, carried, heard, secretsOf, ruled, decide, p2}
 
 -- a client's part of the line is sound
 record Good (c : Client) (p : Peer) : Type 0 where
@@ -54,34 +54,34 @@ good c l s = go c
     k : kindsKnown l && linksStand l ≡ true
     k = both (kindsKnown l && linksStand l) (servicesOffered l) s .0
 
-    kinds : (knownKind Verification (l .verification .association) ≡ true) × (knownKind Han (l .han .peer .association) ≡ true)
-    kinds = both _ (knownKind Han (l .han .peer .association)) (both (kindsKnown l) (linksStand l) k .0)
+    kinds : (knownKind Verification (l .verification .association) ≡ true) × (knownKind (Ciphering Han) (l .han .peer .association) ≡ true)
+    kinds = both _ (knownKind (Ciphering Han) (l .han .peer .association)) (both (kindsKnown l) (linksStand l) k .0)
 
     links : (onLink (l .verification) ≡ true) × (onLink (l .han .peer) ≡ true)
     links = both (onLink (l .verification)) (onLink (l .han .peer)) (both (kindsKnown l) (linksStand l) k .1)
 
-    services : (agreedWithin (offered Verification) (l .verification .association) ≡ true) × (agreedWithin (offered Han) (l .han .peer .association) ≡ true)
-    services = both (agreedWithin (offered Verification) (l .verification .association)) (agreedWithin (offered Han) (l .han .peer .association)) (both (kindsKnown l && linksStand l) (servicesOffered l) s .1)
+    services : (agreedWithin (offered Verification) (l .verification .association) ≡ true) × (agreedWithin (offered (Ciphering Han)) (l .han .peer .association) ≡ true)
+    services = both (agreedWithin (offered Verification) (l .verification .association)) (agreedWithin (offered (Ciphering Han)) (l .han .peer .association)) (both (kindsKnown l && linksStand l) (servicesOffered l) s .1)
 
     go : (c : Client) → Good c (peer c l)
     go Verification = record { kind = kinds .0; link = links .0; services = services .0 }
-    go Han = record { kind = kinds .1; link = links .1; services = services .1 }
+    go (Ciphering Han) = record { kind = kinds .1; link = links .1; services = services .1 }
 
-good-line : (l : Line) → Good Verification (l .verification) → Good Han (l .han .peer) → soundLine l ≡ true
+good-line : (l : Line) → Good Verification (l .verification) → Good (Ciphering Han) (l .han .peer) → soundLine l ≡ true
 good-line l v h = both-true (both-true (both-true (v .kind) (h .kind)) (both-true (v .link) (h .link))) (both-true (v .services) (h .services))
 
 with-peer : (c : Client) (p : Peer) (l : Line) → Good c p → soundLine l ≡ true → soundLine (withPeer c p l) ≡ true
-with-peer Verification p l g s = good-line (withPeer Verification p l) g (good Han l s)
-with-peer Han p l g s = good-line (withPeer Han p l) (good Verification l s) g
+with-peer Verification p l g s = good-line (withPeer Verification p l) g (good (Ciphering Han) l s)
+with-peer (Ciphering Han) p l g s = good-line (withPeer (Ciphering Han) p l) (good Verification l s) g
 
-with-counters : (n : Counters) (l : Line) → soundLine l ≡ true → soundLine (withCounters n l) ≡ true
-with-counters n l s = s
+with-counters : (c : CipherClient) (n : Counters) (l : Line) → soundLine l ≡ true → soundLine (withCounters c n l) ≡ true
+with-counters Han n l s = s
 
 good-linked : (c : Client) (up : Bool) (p : Peer) → Good c (linked up p)
 good-linked Verification true p = record { kind = refl; link = refl; services = refl }
 good-linked Verification false p = record { kind = refl; link = refl; services = refl }
-good-linked Han true p = record { kind = refl; link = refl; services = refl }
-good-linked Han false p = record { kind = refl; link = refl; services = refl }
+good-linked (Ciphering c) true p = record { kind = refl; link = refl; services = refl }
+good-linked (Ciphering c) false p = record { kind = refl; link = refl; services = refl }
 
 -- an association that stands on a link that is up, of a kind that the client may have, with services within those offered
 good-standing : (c : Client) (a : Association) (p : Peer) → knownKind c a ≡ true → agreedWithin (offered c) a ≡ true → p .up ≡ true → Good c (withAssociation a p)
@@ -89,7 +89,7 @@ good-standing c a p k o u = record { kind = k; link = rw u; services = o }
 
 good-ended : (c : Client) (p : Peer) → Good c (withAssociation none p)
 good-ended Verification p = record { kind = refl; link = or-true (p .up); services = refl }
-good-ended Han p = record { kind = refl; link = or-true (p .up); services = refl }
+good-ended (Ciphering c) p = record { kind = refl; link = or-true (p .up); services = refl }
 
 module _ (l : Line) (s : soundLine l ≡ true) where
   abbrev Keeps : Ruling → Type 0
@@ -120,67 +120,74 @@ module _ (l : Line) (s : soundLine l ≡ true) where
       with-peer Verification (withAssociation x (l .verification)) l
       (good-standing Verification x (l .verification) refl (common-within proposed (offered Verification)) up) s
 
-  -- H's envelopes
-  module _ (a : Secrets) (h : Head) where
-    keeps-ciphered : (client key proposed : List ℕ) (counter : ℕ) → l .han .peer .up ≡ true → Keeps (acceptedCiphered l a h client key proposed counter)
+  -- the envelopes of a client that ciphers
+  module _ (a : Secrets) (k : CipherClient) (h : Head) where
+    abbrev x : Association
+    x = held k l
+
+    -- with any counters
+    counted : (n : Counters) (m : Line) → soundLine m ≡ true → soundLine (withCounters k n m) ≡ true
+    counted n m = with-counters k n m
+
+    stands : (y : Association) → knownKind (Ciphering k) y ≡ true → agreedWithin (offered (Ciphering k)) y ≡ true → ciphering k l .peer .up ≡ true → soundLine (associates (Ciphering k) y l) ≡ true
+    stands y e o up = with-peer (Ciphering k) (withAssociation y (ciphering k l .peer)) l (good-standing (Ciphering k) y (ciphering k l .peer) e o up) s
+
+    keeps-ciphered : (client key proposed : List ℕ) (counter : ℕ) → ciphering k l .peer .up ≡ true → Keeps (acceptedCiphered l a k h client key proposed counter)
     unfolding acceptedCiphered
     keeps-ciphered client key proposed counter up =
-        let x = pending (common proposed (offered Han)) key client (a .challenge) in
-        with-peer Han (withAssociation x (l .han .peer)) l (good-standing Han x (l .han .peer) refl (common-within proposed (offered Han)) up) s
+        counted _ _ (stands (pending (common proposed (offered (Ciphering k))) key client (a .challenge)) refl (common-within proposed (offered (Ciphering k))) up)
 
-    keeps-initiated : (client text : List ℕ) (counter : ℕ) → l .han .peer .up ≡ true → (r : InitiateRequest) → Keeps (initiated l a h client text counter r)
+    keeps-initiated : (client text : List ℕ) (counter : ℕ) → ciphering k l .peer .up ≡ true → (r : InitiateRequest) → Keeps (initiated l a k h client text counter r)
     keeps-initiated client text counter up (Accepted key services) = keeps-ciphered client (take 16 (drop key text)) (take 3 (drop services text)) counter up
     keeps-initiated client text counter up RequestDeparts = s
 
-    keeps-enclosed : (client : List ℕ) → l .han .peer .up ≡ true → (o : Opened) → Keeps (enclosed l a h client o)
+    keeps-enclosed : (client : List ℕ) → ciphering k l .peer .up ≡ true → (o : Opened) → Keeps (enclosed l a k h client o)
     keeps-enclosed client up fails = s
     keeps-enclosed client up (opens counter text) = keeps-initiated client text counter up (readRequest text)
 
-    keeps-inside : (tag counter : ℕ) (text : List ℕ) (r : Reading) → Keeps (askedInside l a h tag counter text r)
-    keeps-inside tag counter text Malformed = s
-    keeps-inside tag counter text (Asks q) = s
+    keeps-inside : (tag counter : ℕ) (text : List ℕ) (r : Reading) → Keeps (askedInside l a k h tag counter text r)
+    keeps-inside tag counter text Malformed = counted _ l s
+    keeps-inside tag counter text (Asks q) = counted _ _ (counted _ l s)
 
-    keeps-admitted : (o : Opened) (f : (counter : ℕ) → List ℕ → Ruling) → ((counter : ℕ) (text : List ℕ) → Keeps (f counter text)) → Keeps (admitted l o f)
-    keeps-admitted fails f k = s
-    keeps-admitted (opens counter text) f k = keeps-if (inWindow (l .han .counters .accepted) counter) _ _ (λ _. k counter text) (λ _. ends Han)
+    keeps-admitted : (o : Opened) (f : (counter : ℕ) → List ℕ → Ruling) → ((counter : ℕ) (text : List ℕ) → Keeps (f counter text)) → Keeps (admitted l k o f)
+    keeps-admitted fails f i = s
+    keeps-admitted (opens counter text) f i = keeps-if (inWindow (counters k l .accepted) counter) _ _ (λ _. i counter text) (λ _. ends (Ciphering k))
 
-    keeps-request : (tag : ℕ) (apdu : List ℕ) → Keeps (requestEnclosed l a h tag apdu)
+    keeps-request : (tag : ℕ) (apdu : List ℕ) → Keeps (requestEnclosed l a k h tag apdu)
     unfolding requestEnclosed
     keeps-request tag apdu =
-        keeps-admitted (opened (dedicatedKeys (a .ak) l) (l .han .peer .title) tag apdu) _ (λ counter text. keeps-inside tag counter text (readInside tag text))
+        keeps-admitted (opened (dedicatedKeys (a .ak) k l) (ciphering k l .peer .title) tag apdu) _ (λ counter text. keeps-inside tag counter text (readInside tag text))
 
-    keeps-disproved : (invoke counter : ℕ) → Keeps (disproved l a h invoke counter)
+    keeps-disproved : (invoke counter : ℕ) → Keeps (disproved l a k h invoke counter)
     unfolding disproved
-    keeps-disproved invoke counter = ends Han
+    keeps-disproved invoke counter = counted _ _ (ends (Ciphering k))
 
     -- while pending, the link is up and what was agreed lies within what is offered
-    module _ (p : isPending (l .han .peer .association) ≡ true) where
-      pending-stands : (x : Association) → isPending x ≡ true → agreedWithin (offered Han) x ≡ true → agreedWithin (offered Han) (associated (agreedIn x) (keyIn x)) ≡ true
+    module _ (p : isPending x ≡ true) where
+      pending-stands : (y : Association) → isPending y ≡ true → agreedWithin (offered (Ciphering k)) y ≡ true → agreedWithin (offered (Ciphering k)) (associated (agreedIn y) (keyIn y)) ≡ true
       pending-stands none e w = absurd (false≢true e)
-      pending-stands (pending ag k d m) e w = w
-      pending-stands (associated ag k) e w = absurd (false≢true e)
+      pending-stands (pending ag i d m) e w = w
+      pending-stands (associated ag i) e w = absurd (false≢true e)
 
-      keeps-proved : (invoke counter : ℕ) → l .han .peer .up ≡ true → Keeps (proved l a h invoke counter)
+      keeps-proved : (invoke counter : ℕ) → ciphering k l .peer .up ≡ true → Keeps (proved l a k h invoke counter)
       unfolding proved
       keeps-proved invoke counter up =
-          let x = associated (agreedIn (l .han .peer .association)) (keyIn (l .han .peer .association)) in
-          with-peer Han (withAssociation x (l .han .peer)) l
-          (good-standing Han x (l .han .peer) refl (pending-stands (l .han .peer .association) p (good Han l s .services)) up) s
+          counted _ _ (stands (associated (agreedIn x) (keyIn x)) refl (pending-stands x p (good (Ciphering k) l s .services)) up)
 
-      keeps-challenged : l .han .peer .up ≡ true → (counter : ℕ) (text : List ℕ) (q : Asked) → Keeps (challenged l a h counter text q)
+      keeps-challenged : ciphering k l .peer .up ≡ true → (counter : ℕ) (text : List ℕ) (q : Asked) → Keeps (challenged l a k h counter text q)
       unfolding challenged
       keeps-challenged up counter text q =
-          keeps-if (not (isChallenge text q)) _ _ (λ _. s) λ _.
-          keeps-if (provesItself l a counter text q) _ _ (λ _. keeps-proved (q .invoke) counter up) (λ _. keeps-disproved (q .invoke) counter)
+          keeps-if (not (isChallenge k text q)) _ _ (λ _. counted _ l s) λ _.
+          keeps-if (provesItself l a k counter text q) _ _ (λ _. keeps-proved (q .invoke) counter up) (λ _. keeps-disproved (q .invoke) counter)
 
-      keeps-answered : l .han .peer .up ≡ true → (counter : ℕ) (text : List ℕ) (r : Reading) → Keeps (answeredChallenge l a h counter text r)
-      keeps-answered up counter text Malformed = s
+      keeps-answered : ciphering k l .peer .up ≡ true → (counter : ℕ) (text : List ℕ) (r : Reading) → Keeps (answeredChallenge l a k h counter text r)
+      keeps-answered up counter text Malformed = counted _ l s
       keeps-answered up counter text (Asks q) = keeps-challenged up counter text q
 
-      keeps-challenge : l .han .peer .up ≡ true → (apdu : List ℕ) → Keeps (challengeEnclosed l a h apdu)
+      keeps-challenge : ciphering k l .peer .up ≡ true → (apdu : List ℕ) → Keeps (challengeEnclosed l a k h apdu)
       unfolding challengeEnclosed
       keeps-challenge up apdu =
-          keeps-admitted (opened (lentKeys a) (l .han .peer .title) 0xCB apdu) _ (λ counter text. keeps-answered up counter text (readAction text))
+          keeps-admitted (opened (lentKeys a) (ciphering k l .peer .title) 0xCB apdu) _ (λ counter text. keeps-answered up counter text (readAction text))
 
   module _ (a : Secrets) (c : Client) (h : Head) (up : peer c l .up ≡ true) where
     keeps-released : (apdu : List ℕ) → Keeps (released l c h apdu)
@@ -191,46 +198,29 @@ module _ (l : Line) (s : soundLine l ≡ true) where
     keeps-asked apdu Malformed = s
     keeps-asked apdu (Asks q) = s
 
-    -- an AARQ is read as plain from V alone, and as ciphered from H alone
-    plain-from : (x : Client) (t apdu : List ℕ) {p : ℕ} → readAarq apdu x t ≡ Plain p → peer x l .up ≡ true → l .verification .up ≡ true
-    unfolding readAarq
-    plain-from Verification t apdu q u = u
-    plain-from Han t apdu {p} q u = absurd (go (isLaid (cipheredAarq Han t) apdu 0) q)
-      where
-        go : (b : Bool) → cond b (Ciphered 42 54) Departs ≡ Plain p → ⊥
-        go true e = let z : _≡_ {A = ℕ} 0 1 = cc in omega arith
-        go false e = let z : _≡_ {A = ℕ} 0 1 = cc in omega arith
+    keeps-associating : (c : Client) → peer c l .up ≡ true → (apdu : List ℕ) (r : ReadAarq) → Keeps (associating l a c h apdu r)
+    keeps-associating Verification u apdu (Plain p) = keeps-plain h (take 3 (drop p apdu)) u
+    keeps-associating (Ciphering k) u apdu (Plain p) = s
+    keeps-associating (Ciphering k) u apdu (Ciphered d e) =
+        keeps-enclosed a k h (take 8 (drop d apdu)) u (opened (lentKeys a) (ciphering k l .peer .title) 0x21 (drop e apdu))
+    keeps-associating Verification u apdu (Ciphered d e) = s
+    keeps-associating c u apdu Departs = s
 
-    ciphered-from : (x : Client) (t apdu : List ℕ) {d e : ℕ} → readAarq apdu x t ≡ Ciphered d e → peer x l .up ≡ true → l .han .peer .up ≡ true
-    unfolding readAarq
-    ciphered-from Han t apdu q u = u
-    ciphered-from Verification t apdu {d} {e} q u = absurd (go (isLaid (plainAarq Verification t) apdu 0) q)
-      where
-        go : (b : Bool) → cond b (Plain 47) Departs ≡ Ciphered d e → ⊥
-        go true e = let z : _≡_ {A = ℕ} 0 1 = cc in omega arith
-        go false e = let z : _≡_ {A = ℕ} 0 1 = cc in omega arith
-
-    keeps-associating : (apdu : List ℕ) (r : ReadAarq) → readAarq apdu c (peer c l .title) ≡ r → Keeps (associating l a c h apdu r)
-    keeps-associating apdu (Plain p) q =
-        keeps-plain h (take 3 (drop p apdu)) (plain-from c (peer c l .title) apdu q up)
-    keeps-associating apdu (Ciphered d e) q =
-        keeps-enclosed a h (take 8 (drop d apdu)) (ciphered-from c (peer c l .title) apdu q up) (opened (lentKeys a) (l .han .peer .title) 0x21 (drop e apdu))
-    keeps-associating apdu Departs q = s
+    keeps-ofCiphering : (c : Client) (f : CipherClient → Ruling) → ((k : CipherClient) → c ≡ Ciphering k → Keeps (f k)) → Keeps (ofCiphering l c h f)
+    keeps-ofCiphering Verification f i = s
+    keeps-ofCiphering (Ciphering k) f i = i k refl
 
     keeps-tag : (apdu : List ℕ) (t : Tag) → permitted c (peer c l .association) t ≡ true → Keeps (byTag l a c h apdu t)
-    keeps-tag apdu Aarq p = keeps-associating apdu (readAarq apdu c (peer c l .title)) refl
+    keeps-tag apdu Aarq p = keeps-associating c up apdu (readAarq apdu c (peer c l .title))
     keeps-tag apdu Rlrq p = keeps-released apdu
     keeps-tag apdu GetRequest p = keeps-asked apdu (readGet apdu)
     keeps-tag apdu SetRequest p = s
     keeps-tag apdu ActionRequest p = s
-    keeps-tag apdu GloActionRequest p = go c up (both (isPending (peer c l .association)) (ciphers c) p)
-      where
-        go : (x : Client) → peer x l .up ≡ true → (isPending (peer x l .association) ≡ true) × (ciphers x ≡ true) → Keeps (challengeEnclosed l a h apdu)
-        go Verification u e = absurd (false≢true (e .1))
-        go Han u e = keeps-challenge a h (e .0) u apdu
-    keeps-tag apdu DedGetRequest p = keeps-request a h 0xD0 apdu
+    keeps-tag apdu GloActionRequest p =
+        keeps-ofCiphering c _ (λ k e. keeps-challenge a k h (rw e at (both (isPending (peer c l .association)) (ciphers c) p .0)) (rw e at up) apdu)
+    keeps-tag apdu DedGetRequest p = keeps-ofCiphering c _ (λ k e. keeps-request a k h 0xD0 apdu)
     keeps-tag apdu DedSetRequest p = s
-    keeps-tag apdu DedActionRequest p = keeps-request a h 0xD3 apdu
+    keeps-tag apdu DedActionRequest p = keeps-ofCiphering c _ (λ k e. keeps-request a k h 0xD3 apdu)
     keeps-tag apdu Unknown p = s
 
     keeps-conversed : (apdu : List ℕ) (t : Tag) → Keeps (conversed l a c h apdu t)

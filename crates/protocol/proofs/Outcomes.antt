@@ -1,5 +1,5 @@
 -- Every frame call is one of the rows of document 01's table, and the cells follow: specs/Outcomes, proved.
-use mathlib.Core.Path.{_≡_, refl, ap, _∙_}
+use mathlib.Core.Path.{_≡_, refl, ap, subst, _∙_}
 use mathlib.Core.Bool.{Bool, true, false, cond, not, _||_, false≢true}
 use mathlib.Core.List.{List, [], _∷_}
 use Prim.Native.Nat.{ℕ, _≤_, _<_}
@@ -8,11 +8,13 @@ use lib.ListN.{length}
 use lib.Dec.{eqb, ltb, leb}
 use borrow.Author.Tests.{eqb-true, leb-true}
 use Rattle.model.specs.declared.Client.{Client}
-use Rattle.model.specs.declared.Client.the-variants.{Verification, Han}
+use Rattle.model.specs.declared.CipherClient.{CipherClient}
+use Rattle.model.specs.declared.Client.the-variants.{Verification, Ciphering}
+use Rattle.model.specs.declared.CipherClient.the-variants.{Han}
 use Rattle.model.specs.Limits.{longestSent, replyRoom}
 use Rattle.model.specs.Names.{every}
 use Rattle.model.specs.Periods.{listed}
-use Rattle.model.specs.State.{Model}
+use Rattle.model.specs.State.{none, Model}
 use Rattle.model.specs.Soundness.{sound}
 use Rattle.model.specs.Objects.{Request, turned}
 use Rattle.model.specs.Calls.{Lent, lentRefusal, frame as frameCall, Outcome, refused, serve, decided, act, step}
@@ -28,7 +30,7 @@ use Rattle.cosem.specs.Requests.{requested}
 use Rattle.counters.specs.Advance.{taken}
 use Rattle.counters.specs.Window.{accepting}
 use Rattle.protocol.specs.Rulings.{Ruling, decision}
-use Rattle.protocol.specs.Clients.{selectiveIn}
+use Rattle.protocol.specs.Clients.{associates, selectiveIn}
 use Rattle.protocol.specs.Decide.{wrap, accepted, advanced, disproved, around, seal, secretsOf, ruled, decide, p2}
 use Rattle.protocol.specs.Outcomes.{outcome, headIn, SentBy, said, Enclosed, get, action, Accepted, Brings, Row, refuses, drops, overLength, badFrame, noLink, notAccepted, exception, exceptionInside, denial, denialInside, wrongProof, links, tells, grants, grantsInside, RowsHold, FrameNumbers, Silent, Unchanged, Dropping, Dropped, Excepting, plain, inside, LastAccepted, PlainUnchanged, Advanced, counters, association, DeniedBody, DeniedLine}
 use Rattle.protocol.proofs.Claim.{p2-numbers-allowed}
@@ -65,11 +67,11 @@ frame-number WrongLlc = nine
 -- a known sender's address is its client's
 pub sender-address : (c : Client) (n : ℕ) → senderOf n ≡ Known c → n ≡ addressOf c
 unfolding senderOf
-sender-address c n e = go (eqb n (addressOf Verification)) refl (eqb n (addressOf Han)) refl e
+sender-address c n e = go (eqb n (addressOf Verification)) refl (eqb n (addressOf (Ciphering Han))) refl e
   where
-    go : (v : Bool) → eqb n (addressOf Verification) ≡ v → (w : Bool) → eqb n (addressOf Han) ≡ w → cond v (Known Verification) (cond w (Known Han) Unknown) ≡ Known c → n ≡ addressOf c
+    go : (v : Bool) → eqb n (addressOf Verification) ≡ v → (w : Bool) → eqb n (addressOf (Ciphering Han)) ≡ w → cond v (Known Verification) (cond w (Known (Ciphering Han)) Unknown) ≡ Known c → n ≡ addressOf c
     go true p w q k = let z : Verification ≡ c = cc in eqb-true n (addressOf Verification) p ∙ ap addressOf z
-    go false p true q k = let z : Han ≡ c = cc in eqb-true n (addressOf Han) q ∙ ap addressOf z
+    go false p true q k = let z : Ciphering Han ≡ c = cc in eqb-true n (addressOf (Ciphering Han)) q ∙ ap addressOf z
     go false p false q k = absurd (let z : _≡_ {A = ℕ} 0 1 = cc in omega arith)
 
 module _ (a : Lent) (m : Model) where
@@ -90,38 +92,43 @@ module _ (a : Lent) (m : Model) where
 
   -- the body's answer, to V and to H
   row-served : (q : Request) → q .client ≡ Verification → SentBy Verification a → by-turn.Turning (m .body) (turned q (m .body))
-      → Row a m (decided p2 (serve q (wrap (a .ak) (headIn a) 0xC0) (m .line)) m)
+      → Row a m (decided p2 (serve q (wrap (a .ak) Verification (headIn a) 0xC0) (m .line)) m)
   unfolding seal around
   row-served q c from (by-turn.grants e) = rw e (grants q from c)
   row-served q c from (by-turn.denies e b d) = rw (e, b) (denial from d)
 
-  row-inside : {tag : ℕ} {asked : List ℕ} (q : Request) (n : ℕ) → q .client ≡ Han → Enclosed tag → SentBy Han a → Brings a (m .line) tag n asked → Accepted n (m .line) → by-turn.Turning (m .body) (turned q (m .body))
-      → Row a m (decided p2 (serve q (wrap (a .ak) (headIn a) tag) (advanced (accepted n (m .line)))) m)
+  row-inside : (c : CipherClient) {tag : ℕ} {asked : List ℕ} (q : Request) (n : ℕ) → q .client ≡ Ciphering c → Enclosed tag → SentBy (Ciphering c) a → Brings a (m .line) c tag n asked → Accepted c n (m .line) → by-turn.Turning (m .body) (turned q (m .body))
+      → Row a m (decided p2 (serve q (wrap (a .ak) (Ciphering c) (headIn a) tag) (advanced c (accepted c n (m .line)))) m)
   unfolding seal around taken accepting
-  row-inside q n c get from o w (by-turn.grants e) = rw e (grantsInside q from get o w c)
-  row-inside q n c action from o w (by-turn.grants e) = rw e (grantsInside q from action o w c)
-  row-inside q n c get from o w (by-turn.denies e b d) = rw (e, b) (denialInside from get o w d)
-  row-inside q n c action from o w (by-turn.denies e b d) = rw (e, b) (denialInside from action o w d)
+  row-inside Han q n c get from o w (by-turn.grants e) = rw e (grantsInside q from get o w c)
+  row-inside Han q n c action from o w (by-turn.grants e) = rw e (grantsInside q from action o w c)
+  row-inside Han q n c get from o w (by-turn.denies e b d) = rw (e, b) (denialInside from get o w d)
+  row-inside Han q n c action from o w (by-turn.denies e b d) = rw (e, b) (denialInside from action o w d)
+
+  row-disproved : (c : CipherClient) (invoke n : ℕ) {asked : List ℕ} → SentBy (Ciphering c) a → Brings a (m .line) c 0xCB n asked → Accepted c n (m .line)
+      → Row a m (decided p2 (decision (disproved (m .line) (secretsOf a) c (headIn a) invoke n)) m)
+  unfolding disproved taken accepting
+  row-disproved Han invoke n from o w = wrongProof invoke from o w
 
   row-ruled : {r : Ruling} → by.Ruled (m .line) (secretsOf a) (a .received) r → Row a m (decided p2 (decision r) m)
   unfolding disproved taken accepting requested
   row-ruled (by.unheard t h) = row-unheard (frame-number t) h
   row-ruled by.unopened = refuses 6 refl
-  row-ruled (by.drops from o w) = drops (sent-by Han from) o w
+  row-ruled (by.drops {c} from o w) = drops (sent-by (Ciphering c) from) o w
   row-ruled (by.rejects t h) = row-rejected (frame-number t) h
   row-ruled (by.noLink t e) = rw e noLink
   row-ruled (by.departs c from) = notAccepted c (sent-by c from)
   row-ruled (by.excepts t e n) = rw n (exception e)
-  row-ruled (by.exceptsInside t e counter n from o w) = rw n (exceptionInside e (sent-by Han from) o w)
-  row-ruled (by.disproves invoke counter from o w) = wrongProof invoke (sent-by Han from) o w
+  row-ruled (by.exceptsInside t e counter {c} n from o w) = rw n (exceptionInside e (sent-by (Ciphering c) from) o w)
+  row-ruled (by.disproves invoke counter {c} from o w) = row-disproved c invoke counter (sent-by (Ciphering c) from) o w
   row-ruled (by.links after) = links after
-  row-ruled (by.tells bs after f) = tells bs after
+  row-ruled (by.tells r bs after e f) = rw e (tells bs after)
   row-ruled (by.serves s q from) =
       let r = requested Verification (selectiveIn Verification (m .line)) s q in
       row-served r refl (sent-by Verification from) (by-turn.turning r (m .body))
-  row-ruled (by.servesInside tag s q counter k from o w) =
-      let r = requested Han (selectiveIn Han (m .line)) s q in
-      row-inside r counter refl k (sent-by Han from) o w (by-turn.turning r (m .body))
+  row-ruled (by.servesInside tag s q counter k {c} from o w) =
+      let r = requested (Ciphering c) (selectiveIn (Ciphering c) (m .line)) s q in
+      row-inside c r counter refl k (sent-by (Ciphering c) from) o w (by-turn.turning r (m .body))
 
   -- refusals 1 and 2, and then 3, come before the frame
   pub row-lent : (P : Outcome → Type 0) → P (refused 1 m) → P (refused 2 m) → P (refused 3 m) → (lentRefusal a ≡ 0 → sound m ≡ true → P (decided p2 (decision (ruled (m .line) a)) m)) → P (outcome a m)
@@ -198,7 +205,7 @@ module _ (a : Lent) (m : Model) where
 
   dropped-row : {o : Outcome} → Row a m o → o .refusal ≡ 7 → Dropping a m (o .next)
   dropped-row (refuses n k) e = absurd (early n k (omega arith))
-  dropped-row (drops {tag} {n} {asked} from o w) e = record { tag = tag; counter = n; text = asked; sender = from; envelope = o; outside = w; drops = refl }
+  dropped-row (drops {c} {tag} {n} {asked} from o w) e = record { client = c; tag = tag; counter = n; text = asked; sender = from; envelope = o; outside = w; drops = refl }
   dropped-row overLength e = absurd (omega arith)
   dropped-row badFrame e = absurd (omega arith)
   dropped-row noLink e = absurd (omega arith)
@@ -231,8 +238,11 @@ module _ (a : Lent) (m : Model) where
   accepted-row (grantsInside q from k o w c) e = absurd (omega arith)
 
   -- a frame has one sender
-  one-sender : {A : Type 0} → SentBy Verification a → SentBy Han a → A
-  one-sender v h = absurd (omega arith)
+  one-sender : {A : Type 0} (c : CipherClient) → SentBy Verification a → SentBy (Ciphering c) a → A
+  one-sender Han v h = absurd (omega arith)
+
+  same-sender : (c d : CipherClient) → SentBy (Ciphering c) a → SentBy (Ciphering d) a → d ≡ c
+  same-sender Han Han x y = refl
 
   plain-row : {o : Outcome} → Row a m o → SentBy Verification a → listed (o .refusal) (12 ∷ 13 ∷ []) ≡ true → o .next ≡ m
   plain-row (refuses n k) v e = refl
@@ -242,10 +252,10 @@ module _ (a : Lent) (m : Model) where
   plain-row noLink v e = refl
   plain-row (notAccepted c from) v e = refl
   plain-row (exception x) v e = refl
-  plain-row (exceptionInside x from o w) v e = one-sender v from
+  plain-row (exceptionInside x {c} from o w) v e = one-sender c v from
   plain-row (denial from d) v e = refl
-  plain-row (denialInside from k o w d) v e = one-sender v from
-  plain-row (wrongProof invoke from o w) v e = one-sender v from
+  plain-row (denialInside {c} from k o w d) v e = one-sender c v from
+  plain-row (wrongProof invoke {c} from o w) v e = one-sender c v from
   plain-row (links after) v e = absurd (false≢true e)
   plain-row (tells bs after) v e = absurd (false≢true e)
   plain-row (grants q from c) v e = absurd (false≢true e)
@@ -268,22 +278,22 @@ module _ (a : Lent) (m : Model) where
   denied-row (grants q from c) e = absurd (omega arith)
   denied-row (grantsInside q from k o w c) e = absurd (omega arith)
 
-  advanced-row : {o : Outcome} → Row a m o → SentBy Han a → o .refusal ≡ 13 → Advanced a (m .line) (o .next .line)
-  advanced-row (refuses n k) h e = absurd (early n k (omega arith))
-  advanced-row (drops from o w) h e = absurd (omega arith)
-  advanced-row overLength h e = absurd (omega arith)
-  advanced-row badFrame h e = absurd (omega arith)
-  advanced-row noLink h e = absurd (omega arith)
-  advanced-row (notAccepted c from) h e = absurd (omega arith)
-  advanced-row (exception x) h e = absurd (omega arith)
-  advanced-row (exceptionInside x from o w) h e = absurd (omega arith)
-  advanced-row (denial from d) h e = one-sender from h
-  advanced-row (denialInside from k o w d) h e = counters k o w
-  advanced-row (wrongProof invoke from o w) h e = association o w
-  advanced-row (links after) h e = absurd (omega arith)
-  advanced-row (tells bs after) h e = absurd (omega arith)
-  advanced-row (grants q from c) h e = absurd (omega arith)
-  advanced-row (grantsInside q from k o w c) h e = absurd (omega arith)
+  advanced-row : (c : CipherClient) {o : Outcome} → Row a m o → SentBy (Ciphering c) a → o .refusal ≡ 13 → Advanced a (m .line) c (o .next .line)
+  advanced-row c (refuses n k) h e = absurd (early n k (omega arith))
+  advanced-row c (drops from o w) h e = absurd (omega arith)
+  advanced-row c overLength h e = absurd (omega arith)
+  advanced-row c badFrame h e = absurd (omega arith)
+  advanced-row c noLink h e = absurd (omega arith)
+  advanced-row c (notAccepted d from) h e = absurd (omega arith)
+  advanced-row c (exception x) h e = absurd (omega arith)
+  advanced-row c (exceptionInside x from o w) h e = absurd (omega arith)
+  advanced-row c (denial from d) h e = one-sender c from h
+  advanced-row c (denialInside {c = d} {text} {asked} {tag} {n} from k o w x) h e = subst (λ (y : CipherClient). Advanced a (m .line) y (advanced d (accepted d n (m .line)))) (same-sender c d h from) (counters k o w)
+  advanced-row c (wrongProof invoke {c = d} {n} from o w) h e = subst (λ (y : CipherClient). Advanced a (m .line) y (advanced d (accepted d n (associates (Ciphering d) none (m .line))))) (same-sender c d h from) (association o w)
+  advanced-row c (links after) h e = absurd (omega arith)
+  advanced-row c (tells bs after) h e = absurd (omega arith)
+  advanced-row c (grants q from v) h e = absurd (omega arith)
+  advanced-row c (grantsInside q from k o w v) h e = absurd (omega arith)
 
 pub silent : Silent
 silent a m = silent-row a m (rows-hold a m)
@@ -304,4 +314,4 @@ pub denied-body : DeniedBody
 denied-body a m = denied-row a m (rows-hold a m)
 
 pub denied-line : DeniedLine
-denied-line a m = advanced-row a m (rows-hold a m)
+denied-line a m c = advanced-row a m c (rows-hold a m)

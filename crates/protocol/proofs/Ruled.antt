@@ -1,6 +1,6 @@
 -- What a frame comes to on a line, told apart by the rows of document 01's table: one walk through the rulings, from which the
 -- statements of specs/Outcomes follow.
-use mathlib.Core.Path.{_≡_, refl}
+use mathlib.Core.Path.{_≡_, refl, _∙_}
 use mathlib.Core.Bool.{Bool, true, false, cond, not, false≢true}
 use mathlib.Core.List.{List, [], _∷_, _++_}
 use Prim.Native.Nat.{ℕ, _-_, _≤_, _<_}
@@ -8,7 +8,8 @@ use native.Mathlib.Omega.{arith}
 use lib.ListN.{take, drop, length, length-append}
 use borrow.Author.Tests.{not-false}
 use Rattle.model.specs.declared.Client.{Client}
-use Rattle.model.specs.declared.Client.the-variants.{Verification, Han}
+use Rattle.model.specs.declared.CipherClient.{CipherClient}
+use Rattle.model.specs.declared.Client.the-variants.{Verification, Ciphering}
 use Rattle.model.specs.Limits.{longestSent, apduRoom}
 use Rattle.model.specs.Services.{offered, common}
 use Rattle.model.specs.State.{none, Line}
@@ -38,33 +39,32 @@ use Rattle.acse.specs.declared.Aarq.{Aarq as ReadAarq}
 use Rattle.acse.specs.declared.Aarq.the-variants.{Plain, Ciphered, Departs}
 use Rattle.acse.specs.declared.InitiateRequest.{InitiateRequest}
 use Rattle.acse.specs.declared.InitiateRequest.the-variants.{Accepted, Departs as RequestDeparts}
-use Rattle.acse.specs.Clients.{ciphers}
-use Rattle.acse.specs.Pieces.{isLaid}
 use Rattle.acse.specs.Initiate.{readRequest, initiateResponse}
-use Rattle.acse.specs.Aarq.{plainAarq, readAarq}
+use Rattle.acse.specs.Aarq.{readAarq}
 use Rattle.acse.specs.Aare.{plainAare, cipheredAareHead, rejectedAare}
 use Rattle.acse.proofs.Layouts.{length-plain, length-head}
-use Rattle.acse.proofs.ServiceLaws.{length-common}
+use Rattle.acse.proofs.ServiceLaws.{length-common, length-offered}
 use Rattle.counters.specs.Advance.{taken}
 use Rattle.counters.specs.Window.{inWindow, accepting}
+use Rattle.hdlc.specs.Replies.{apduFrame}
 use Rattle.envelope.specs.Layout.{Keys, sealedEnvelope}
 use Rattle.envelope.specs.Opening.{Opened, fails, opens, opened}
 use Rattle.envelope.specs.Challenge.{proofValue}
 use Rattle.envelope.proofs.CloseLaws.{length-envelope, envelope-size, envelope-fits}
 use Rattle.envelope.proofs.ProofLaws.{length-proof}
 use Rattle.protocol.specs.declared.Secrets.{Secrets}
-use Rattle.protocol.specs.Clients.{peer, associates, agreedIn, selectiveIn, lentKeys, dedicatedKeys, isPending, isAssociated, permitted, bitAgreed, isUnknown}
-use Rattle.protocol.specs.Rulings.{Test, none as noTest, frame, linkUpWithInformation, p5HoldsV, linkDownWhileDown, dataWhileDown, unknownTag, tagNotPermitted, bitNotAgreed, aarqNotAccepted, envelopeUnopened, outsideWindow, malformedApdu, notTheChallenge, refusalOf, nothing, ua, dm, reject, apdu, Ruling, says, asks}
+use Rattle.protocol.specs.Clients.{ciphering, peer, associates, counters, held, agreedIn, clientChallenge, selectiveIn, lentKeys, dedicatedKeys, isPending, isAssociated, permitted, bitAgreed, isUnknown}
+use Rattle.protocol.specs.Rulings.{provedText, Test, none as noTest, frame, linkUpWithInformation, p5HoldsV, linkDownWhileDown, dataWhileDown, unknownTag, tagNotPermitted, bitNotAgreed, aarqNotAccepted, envelopeUnopened, outsideWindow, malformedApdu, notTheChallenge, refusalOf, nothing, ua, dm, reject, apdu, bytesOf, Reply, Ruling, says, asks}
 use Rattle.protocol.specs.Outcomes.{apduOf, Enclosed, get, action, Opens, underGuk, underKey}
-use Rattle.protocol.specs.Decide.{heldByP5, linkUp, linkDown, acceptedPlain, acceptedCiphered, initiated, enclosed, associating, released, wrap, asked, accepted, advanced, askedInside, readInside, isChallenge, provesItself, provedText, proved, disproved, challenged, answeredChallenge, admitted, challengeEnclosed, requestEnclosed, byTag, conversed, set, plainAction, enclosedSet, unknown, Unreached, carried, heard, secretsOf, ruled}
+use Rattle.protocol.specs.Decide.{heldByP5, linkUp, linkDown, acceptedPlain, acceptedCiphered, initiated, enclosed, associating, released, wrap, asked, accepted, advanced, askedInside, readInside, isChallenge, provesItself, proved, disproved, challenged, answeredChallenge, admitted, challengeEnclosed, requestEnclosed, ofCiphering, byTag, conversed, set, plainAction, enclosedSet, unknown, Unreached, carried, heard, secretsOf, ruled}
 
 -- the frame is this client's
 abbrev pub From : Client → List ℕ → Type 0
 From c f = senderOf (byte f 4) ≡ Known c
 
--- the counter lies in the window of H's envelopes
-abbrev pub InWindow : Line → ℕ → Type 0
-InWindow l counter = inWindow (l .han .counters .accepted) counter ≡ true
+-- the counter lies in the window of the client's envelopes
+abbrev pub InWindow : Line → CipherClient → ℕ → Type 0
+InWindow l c counter = inWindow (counters c l .accepted) counter ≡ true
 
 -- an APDU, of some bytes, that fits a frame, where the title and the challenge that it may hold have 8 bytes
 abbrev pub Fits : Line → Secrets → List ℕ → Type 0
@@ -77,8 +77,8 @@ pub data Ruled (l : Line) (a : Secrets) (f : List ℕ) : Ruling → Type 0 where
   unheard : (t : FrameTest) → numberOf t < 8 → Ruled l a f (says (frame t) nothing l)
   -- 6, 7
   unopened : Ruled l a f (says envelopeUnopened nothing l)
-  drops : {tag counter : ℕ} {text : List ℕ} → From Han f → Opens a f l tag counter text → inWindow (l .han .counters .accepted) counter ≡ false
-      → Ruled l a f (says outsideWindow nothing (associates Han none l))
+  drops : {c : CipherClient} {tag counter : ℕ} {text : List ℕ} → From (Ciphering c) f → Opens a f l c tag counter text → inWindow (counters c l .accepted) counter ≡ false
+      → Ruled l a f (says outsideWindow nothing (associates (Ciphering c) none l))
   -- 8, 9
   rejects : (t : FrameTest) → 8 ≤ numberOf t → Ruled l a f (says (frame t) (reject (headOf f) t) l)
   -- 10
@@ -87,28 +87,19 @@ pub data Ruled (l : Line) (a : Secrets) (f : List ℕ) : Ruling → Type 0 where
   departs : (c : Client) → From c f → Ruled l a f (says aarqNotAccepted (apdu (headOf f) (rejectedAare c)) l)
   -- 12, outside an envelope and inside
   excepts : (t : Test) (e : Exception) → refusalOf t ≡ 12 → Ruled l a f (says t (apdu (headOf f) (exceptionBytes e)) l)
-  exceptsInside : (t : Test) (e : Exception) (counter : ℕ) {tag : ℕ} {text : List ℕ} → refusalOf t ≡ 12 → From Han f → Opens a f l tag counter text → InWindow l counter
-      → Ruled l a f (says t (apdu (headOf f) (exceptionBytes e)) (accepted counter l))
+  exceptsInside : (t : Test) (e : Exception) (counter : ℕ) {c : CipherClient} {tag : ℕ} {text : List ℕ} → refusalOf t ≡ 12 → From (Ciphering c) f → Opens a f l c tag counter text → InWindow l c counter
+      → Ruled l a f (says t (apdu (headOf f) (exceptionBytes e)) (accepted c counter l))
   -- 13 of a wrong proof
-  disproves : (invoke counter : ℕ) {text : List ℕ} → From Han f → Opens a f l 0xCB counter text → InWindow l counter
-      → Ruled l a f (disproved l a (headOf f) invoke counter)
+  disproves : (invoke counter : ℕ) {c : CipherClient} {text : List ℕ} → From (Ciphering c) f → Opens a f l c 0xCB counter text → InWindow l c counter
+      → Ruled l a f (disproved l a c (headOf f) invoke counter)
   -- 0 of the line: UA, or an APDU
   links : (after : Line) → Ruled l a f (says noTest (ua (headOf f)) after)
-  tells : (bs : List ℕ) (after : Line) → Fits l a bs → Ruled l a f (says noTest (apdu (headOf f) bs) after)
+  tells : (r : Reply) (bs : List ℕ) (after : Line) → bytesOf r ≡ apduFrame (headOf f) bs → Fits l a bs → Ruled l a f (says noTest r after)
   -- 0 or 13 of the body
   serves : (s : List ℕ) (q : Asked) → From Verification f
-      → Ruled l a f (asks (requested Verification (selectiveIn Verification l) s q) (wrap (a .ak) (headOf f) 0xC0) l)
-  servesInside : (tag : ℕ) (s : List ℕ) (q : Asked) (counter : ℕ) → Enclosed tag → From Han f → Opens a f l tag counter s → InWindow l counter
-      → Ruled l a f (asks (requested Han (selectiveIn Han l) s q) (wrap (a .ak) (headOf f) tag) (advanced (accepted counter l)))
-
--- an AARQ of a client that does not cipher is never read as ciphered
-plain-alone : (c : Client) (title s : List ℕ) {d e : ℕ} → ciphers c ≡ false → readAarq s c title ≡ Ciphered d e → ⊥
-unfolding readAarq
-plain-alone c title s {d} {e} p q = go (isLaid (plainAarq c title) s 0) (rw p at q)
-  where
-    go : (b : Bool) → cond b (Plain 47) Departs ≡ Ciphered d e → ⊥
-    go true r = let z : _≡_ {A = ℕ} 0 1 = cc in omega arith
-    go false r = let z : _≡_ {A = ℕ} 0 1 = cc in omega arith
+      → Ruled l a f (asks (requested Verification (selectiveIn Verification l) s q) (wrap (a .ak) Verification (headOf f) 0xC0) l)
+  servesInside : (tag : ℕ) (s : List ℕ) (q : Asked) (counter : ℕ) → Enclosed tag → {c : CipherClient} → From (Ciphering c) f → Opens a f l c tag counter s → InWindow l c counter
+      → Ruled l a f (asks (requested (Ciphering c) (selectiveIn (Ciphering c) l) s q) (wrap (a .ak) (Ciphering c) (headOf f) tag) (advanced c (accepted c counter l)))
 
 -- the answer to a proof: C7 01, the invoke byte, 00 01 00, and the meter's own proof
 length-proved : (k : Keys) (title challenge : List ℕ) (invoke number : ℕ) → length (provedText k title challenge invoke number) ≡ 25
@@ -155,72 +146,72 @@ module _ (l : Line) (a : Secrets) (f : List ℕ) where
   unfolding acceptedPlain
   rules-plain proposed =
       let agreed = common proposed (offered Verification) in
-      tells (plainAare Verification (l .title) agreed) _
+      tells _ (plainAare Verification (l .title) agreed) _ refl
       (λ eight _.
       let n = length-plain Verification (l .title) eight agreed (length-common proposed (offered Verification)) in
       (omega arith, omega (arith, apdu-room)))
 
-  rules-ciphered : (client key proposed : List ℕ) (counter : ℕ) → Is (acceptedCiphered l a h client key proposed counter)
+  rules-ciphered : (c : CipherClient) (client key proposed : List ℕ) (counter : ℕ) → Is (acceptedCiphered l a c h client key proposed counter)
   unfolding acceptedCiphered
-  rules-ciphered client key proposed counter =
-      let agreed = common proposed (offered Han) in
-      let number = taken (accepting (l .han .counters) counter) .number in
+  rules-ciphered c client key proposed counter =
+      let agreed = common proposed (offered (Ciphering c)) in
+      let number = taken (accepting (counters c l) counter) .number in
       let response = sealedEnvelope (lentKeys a) (l .title) 0x28 number (initiateResponse agreed) in
-      tells (cipheredAareHead Han (l .title) (a .challenge) ++ response) _
+      tells _ (cipheredAareHead (Ciphering c) (l .title) (a .challenge) ++ response) _ refl
       (λ eight challenge.
-      let whole = length-append (cipheredAareHead Han (l .title) (a .challenge)) response in
+      let whole = length-append (cipheredAareHead (Ciphering c) (l .title) (a .challenge)) response in
       let n = length-envelope (lentKeys a) (l .title) 0x28 number (initiateResponse agreed) in
-      let k = length-head Han (l .title) eight (a .challenge) agreed challenge (length-common proposed (offered Han)) in
+      let k = length-head (Ciphering c) (l .title) eight (a .challenge) agreed challenge (length-common proposed (offered (Ciphering c)) ∙ length-offered (Ciphering c)) in
       (omega arith, omega (arith, apdu-room)))
 
-  module _ (from : From Han f) where
-    rules-initiated : (client text : List ℕ) (counter : ℕ) (r : InitiateRequest) → Is (initiated l a h client text counter r)
-    rules-initiated client text counter (Accepted key services) = rules-ciphered client (take 16 (drop key text)) (take 3 (drop services text)) counter
-    rules-initiated client text counter RequestDeparts = departs Han from
+  module _ (c : CipherClient) (from : From (Ciphering c) f) where
+    rules-initiated : (client text : List ℕ) (counter : ℕ) (r : InitiateRequest) → Is (initiated l a c h client text counter r)
+    rules-initiated client text counter (Accepted key services) = rules-ciphered c client (take 16 (drop key text)) (take 3 (drop services text)) counter
+    rules-initiated client text counter RequestDeparts = departs (Ciphering c) from
 
-    rules-enclosed : (client : List ℕ) (o : Opened) → Is (enclosed l a h client o)
-    rules-enclosed client fails = departs Han from
+    rules-enclosed : (client : List ℕ) (o : Opened) → Is (enclosed l a c h client o)
+    rules-enclosed client fails = departs (Ciphering c) from
     rules-enclosed client (opens counter text) = rules-initiated client text counter (readRequest text)
 
-    -- Envelopes of H.
+    -- Envelopes.
 
-    rules-admitted : {tag : ℕ} (o : Opened) (g : (counter : ℕ) → List ℕ → Ruling) → ((counter : ℕ) (text : List ℕ) → o ≡ opens counter text → Opens a f l tag counter text)
-        → ((counter : ℕ) (text : List ℕ) → Opens a f l tag counter text → InWindow l counter → Is (g counter text)) → Is (admitted l o g)
+    rules-admitted : {tag : ℕ} (o : Opened) (g : (counter : ℕ) → List ℕ → Ruling) → ((counter : ℕ) (text : List ℕ) → o ≡ opens counter text → Opens a f l c tag counter text)
+        → ((counter : ℕ) (text : List ℕ) → Opens a f l c tag counter text → InWindow l c counter → Is (g counter text)) → Is (admitted l c o g)
     rules-admitted fails g b k = unopened
     rules-admitted (opens counter text) g b k =
         let o = b counter text refl in
-        ruled-if (inWindow (l .han .counters .accepted) counter) _ _ (k counter text o) (λ w. drops from o w)
+        ruled-if (inWindow (counters c l .accepted) counter) _ _ (k counter text o) (λ w. drops from o w)
 
-    rules-inside : (tag counter : ℕ) (text : List ℕ) → Enclosed tag → Opens a f l tag counter text → InWindow l counter → (r : Reading) → Is (askedInside l a h tag counter text r)
+    rules-inside : (tag counter : ℕ) (text : List ℕ) → Enclosed tag → Opens a f l c tag counter text → InWindow l c counter → (r : Reading) → Is (askedInside l a c h tag counter text r)
     rules-inside tag counter text t o w Malformed = exceptsInside malformedApdu ServiceUnknown counter refl from o w
     rules-inside tag counter text t o w (Asks q) = servesInside tag text q counter t from o w
 
-    rules-request : (tag : ℕ) → Enclosed tag → Is (requestEnclosed l a h tag s)
+    rules-request : (tag : ℕ) → Enclosed tag → Is (requestEnclosed l a c h tag s)
     unfolding requestEnclosed
     rules-request tag t =
-        rules-admitted (opened (dedicatedKeys (a .ak) l) (l .han .peer .title) tag s) _ (λ counter text e. underKey t e)
+        rules-admitted (opened (dedicatedKeys (a .ak) c l) (ciphering c l .peer .title) tag s) _ (λ counter text e. underKey t e)
         (λ counter text o w. rules-inside tag counter text t o w (readInside tag text))
 
     -- The challenge.
 
-    rules-proved : (invoke counter : ℕ) → Is (proved l a h invoke counter)
+    rules-proved : (invoke counter : ℕ) → Is (proved l a c h invoke counter)
     unfolding proved
-    rules-proved invoke counter = tells _ _ (sealed-fits _ _ _ _ _ (length-proved _ _ _ _ _))
+    rules-proved invoke counter = tells _ _ _ refl (sealed-fits _ _ _ _ _ (length-proved _ _ _ _ _))
 
-    rules-challenged : (counter : ℕ) (text : List ℕ) (q : Asked) → Opens a f l 0xCB counter text → InWindow l counter → Is (challenged l a h counter text q)
+    rules-challenged : (counter : ℕ) (text : List ℕ) (q : Asked) → Opens a f l c 0xCB counter text → InWindow l c counter → Is (challenged l a c h counter text q)
     unfolding challenged
     rules-challenged counter text q o w =
-        ruled-if (not (isChallenge text q)) _ _ (λ _. exceptsInside notTheChallenge ServiceNotAllowed counter refl from o w) λ _.
-        ruled-if (provesItself l a counter text q) _ _ (λ _. rules-proved (q .invoke) counter) (λ _. disproves (q .invoke) counter from o w)
+        ruled-if (not (isChallenge c text q)) _ _ (λ _. exceptsInside notTheChallenge ServiceNotAllowed counter refl from o w) λ _.
+        ruled-if (provesItself l a c counter text q) _ _ (λ _. rules-proved (q .invoke) counter) (λ _. disproves (q .invoke) counter from o w)
 
-    rules-answered : (counter : ℕ) (text : List ℕ) → Opens a f l 0xCB counter text → InWindow l counter → (r : Reading) → Is (answeredChallenge l a h counter text r)
+    rules-answered : (counter : ℕ) (text : List ℕ) → Opens a f l c 0xCB counter text → InWindow l c counter → (r : Reading) → Is (answeredChallenge l a c h counter text r)
     rules-answered counter text o w Malformed = exceptsInside malformedApdu ServiceUnknown counter refl from o w
     rules-answered counter text o w (Asks q) = rules-challenged counter text q o w
 
-    rules-challenge : Is (challengeEnclosed l a h s)
+    rules-challenge : Is (challengeEnclosed l a c h s)
     unfolding challengeEnclosed
     rules-challenge =
-        rules-admitted (opened (lentKeys a) (l .han .peer .title) 0xCB s) _ (λ counter text e. underGuk e)
+        rules-admitted (opened (lentKeys a) (ciphering c l .peer .title) 0xCB s) _ (λ counter text e. underGuk e)
         (λ counter text o w. rules-answered counter text o w (readAction text))
 
   -- By the tag.
@@ -228,33 +219,34 @@ module _ (l : Line) (a : Secrets) (f : List ℕ) where
   rules-released : (c : Client) → Is (released l c h s)
   unfolding released
   rules-released c =
-      ruled-if (isRelease s) _ _ (λ _. tells releaseResponse _ (λ _ _. (omega arith, omega (arith, apdu-room)))) (λ _. excepts malformedApdu ServiceUnknown refl)
+      ruled-if (isRelease s) _ _ (λ _. tells _ releaseResponse _ refl (λ _ _. (omega arith, omega (arith, apdu-room)))) (λ _. excepts malformedApdu ServiceUnknown refl)
 
   rules-asked : From Verification f → (r : Reading) → Is (asked l a Verification h s r)
   rules-asked from Malformed = excepts malformedApdu ServiceUnknown refl
   rules-asked from (Asks q) = serves s q from
 
-  -- an AARQ is read as ciphered from H alone
-  rules-associating : (c : Client) → From c f → (r : ReadAarq) → readAarq s c (peer c l .title) ≡ r → Is (associating l a c h s r)
-  rules-associating c from (Plain p) q = rules-plain (take 3 (drop p s))
-  rules-associating Han from (Ciphered d e) q = rules-enclosed from (take 8 (drop d s)) (opened (lentKeys a) (l .han .peer .title) 0x21 (drop e s))
-  rules-associating Verification from (Ciphered d e) q = absurd (plain-alone Verification (l .verification .title) s refl q)
-  rules-associating c from Departs q = departs c from
+  rules-associating : (c : Client) → From c f → (r : ReadAarq) → Is (associating l a c h s r)
+  rules-associating Verification from (Plain p) = rules-plain (take 3 (drop p s))
+  rules-associating (Ciphering c) from (Plain p) = departs (Ciphering c) from
+  rules-associating (Ciphering c) from (Ciphered d e) = rules-enclosed c from (take 8 (drop d s)) (opened (lentKeys a) (ciphering c l .peer .title) 0x21 (drop e s))
+  rules-associating Verification from (Ciphered d e) = departs Verification from
+  rules-associating c from Departs = departs c from
+
+  rules-ofCiphering : (c : Client) (g : CipherClient → Ruling) → From c f → ((k : CipherClient) → From (Ciphering k) f → Is (g k)) → Is (ofCiphering l c h g)
+  rules-ofCiphering Verification g from i = excepts tagNotPermitted ServiceNotAllowed refl
+  rules-ofCiphering (Ciphering k) g from i = i k from
 
   rules-tag : (c : Client) → From c f → (t : Tag) → permitted c (peer c l .association) t ≡ true → Is (byTag l a c h s t)
-  rules-tag c from Aarq p = rules-associating c from (readAarq s c (peer c l .title)) refl
+  rules-tag c from Aarq p = rules-associating c from (readAarq s c (peer c l .title))
   rules-tag c from Rlrq p = rules-released c
   rules-tag Verification from GetRequest p = rules-asked from (readGet s)
-  rules-tag Han from GetRequest p = absurd (false≢true (both (isAssociated (l .han .peer .association)) false p .1))
+  rules-tag (Ciphering c) from GetRequest p = absurd (false≢true (both (isAssociated (held c l)) false p .1))
   rules-tag c from SetRequest p = excepts tagNotPermitted ServiceNotAllowed refl
   rules-tag c from ActionRequest p = excepts tagNotPermitted ServiceNotAllowed refl
-  rules-tag Han from GloActionRequest p = rules-challenge from
-  rules-tag Verification from GloActionRequest p = absurd (false≢true (both (isPending (l .verification .association)) false p .1))
-  rules-tag Han from DedGetRequest p = rules-request from 0xD0 get
-  rules-tag Verification from DedGetRequest p = absurd (false≢true (both (isAssociated (l .verification .association)) false p .1))
+  rules-tag c from GloActionRequest p = rules-ofCiphering c _ from rules-challenge
+  rules-tag c from DedGetRequest p = rules-ofCiphering c _ from (λ k o. rules-request k o 0xD0 get)
   rules-tag c from DedSetRequest p = excepts tagNotPermitted ServiceNotAllowed refl
-  rules-tag Han from DedActionRequest p = rules-request from 0xD3 action
-  rules-tag Verification from DedActionRequest p = absurd (false≢true (both (isAssociated (l .verification .association)) false p .1))
+  rules-tag c from DedActionRequest p = rules-ofCiphering c _ from (λ k o. rules-request k o 0xD3 action)
   rules-tag c from Unknown p = excepts unknownTag ServiceUnknown refl
 
   rules-conversed : (c : Client) → From c f → (t : Tag) → Is (conversed l a c h s t)

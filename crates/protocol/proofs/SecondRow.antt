@@ -11,14 +11,16 @@ use borrow.Author.Tests.{le-leb}
 use Rattle.wire.specs.Numbers.{lengthField}
 use Rattle.wire.specs.Reading.{sameBytes, skipped, expected, filled, numberAt}
 use Rattle.model.specs.declared.Client.{Client}
-use Rattle.model.specs.declared.Client.the-variants.{Han}
+use Rattle.model.specs.declared.Client.the-variants.{Ciphering}
+use Rattle.model.specs.declared.CipherClient.{CipherClient}
+use Rattle.model.specs.declared.CipherClient.the-variants.{Han}
 use Rattle.model.specs.declared.Clock.{Clock}
 use Rattle.model.specs.Limits.{longestSent, longestReceived, replyRoom, apduRoom, textRoom, greatestApdu, envelopeLength, dataRoom, maxRows, maxRegisters, maxColumns}
 use Rattle.model.specs.Clocks.{februaryDays, daysIn, realDate, realTime, fixedBytes, validClock}
 use Rattle.model.specs.Periods.{periods, captureDue}
 use Rattle.model.specs.Services.{within}
-use Rattle.model.specs.State.{Association, none, pending, associated, Line, Entry, Body, Model, withLine, newPeer, noCounters, newClock, newMeter}
-use Rattle.model.specs.Soundness.{acceptedRegisters, acceptedColumns, isNone, associationOnLink, onLink, sound}
+use Rattle.model.specs.State.{Association, none, pending, associated, Peer, Line, Entry, Body, Model, withLine, newPeer, noCounters, newClock, newMeter}
+use Rattle.model.specs.Soundness.{acceptedRegisters, acceptedColumns, isNone, associationOnLink, linksStand, onLink, sound}
 use Rattle.model.specs.Objects.{Request, Turn, granted, rowData, rowsData, attributeData, fitting, attributeRead, getAnswer, turned}
 use Rattle.model.specs.Calls.{Lent, owner, tick, Outcome, captured, serve, decided, step}
 use Rattle.model.specs.Archive.{rowsOf}
@@ -45,7 +47,7 @@ use Rattle.envelope.proofs.ShapeLaws.{longest-apdu}
 use Rattle.envelope.proofs.CloseLaws.{length-envelope, envelope-size, envelope-fits}
 use Rattle.envelope.proofs.RoundTrip.{opens-closed}
 use Rattle.meter.proofs.SameSecond.{afterDue, due-step, two-more, two-rows}
-use Rattle.protocol.specs.Clients.{selectiveIn, dedicatedKeys, isAssociated}
+use Rattle.protocol.specs.Clients.{ciphering, counters, selectiveIn, dedicatedKeys, isAssociated}
 use Rattle.protocol.specs.Rulings.{Ruling, asks, decision}
 use Rattle.protocol.specs.Decide.{wrap, accepted, advanced, readInside, requestEnclosed, conversed, carried, answerTag, around, seal, secretsOf, p2}
 use Rattle.protocol.specs.Outcomes.{outcome, headIn, apduOf, Enclosed, get, action, toH}
@@ -57,8 +59,8 @@ use Rattle.protocol.proofs.LinkUp.{outcome-ruled, ruled-request, tag-fi
 -- Enclosed requests.
 
 -- an association stands on a link that is up
-up-of : (l : Line) → onLink (l .han .peer) ≡ true → isAssociated (l .han .peer .association) ≡ true → l .han .peer .up ≡ true
-up-of l k e = go (l .han .peer .up) (l .han .peer .association) k e
+up-of : (p : Peer) → onLink p ≡ true → isAssociated (p .association) ≡ true → p .up ≡ true
+up-of p k e = go (p .up) (p .association) k e
   where
     go : (b : Bool) (x : Association) → b || isNone x ≡ true → isAssociated x ≡ true → b ≡ true
     go true x p q = refl
@@ -70,58 +72,62 @@ pub tag-sealed : (k : Keys) (title : List ℕ) (tag counter : ℕ) (text : List 
 unfolding sealedEnvelope head
 tag-sealed k title tag counter text = tag-first tag _
 
-module _ (l : Line) (a : Lent) (h : Head) (up : l .han .peer .up ≡ true) (counter : ℕ) (text : List ℕ) (q : Asked) where
-  inside-carried : {tag : ℕ} → Enclosed tag → Asking a l tag counter text → readInside tag text ≡ Asks q
-      → carried l (secretsOf a) Han h (sealedEnvelope (dedicatedKeys (a .ak) l) (l .han .peer .title) tag counter text)
-      ≡ asks (requested Han (selectiveIn Han l) text q) (wrap (a .ak) h tag) (advanced (accepted counter l))
+module _ (c : CipherClient) (l : Line) (a : Lent) (h : Head) (up : ciphering c l .peer .up ≡ true) (counter : ℕ) (text : List ℕ) (q : Asked) where
+  inside-carried : {tag : ℕ} → Enclosed tag → Asking c a l tag counter text → readInside tag text ≡ Asks q
+      → carried l (secretsOf a) (Ciphering c) h (sealedEnvelope (dedicatedKeys (a .ak) c l) (ciphering c l .peer .title) tag counter text)
+      ≡ asks (requested (Ciphering c) (selectiveIn (Ciphering c) l) text q) (wrap (a .ak) (Ciphering c) h tag) (advanced c (accepted c counter l))
   unfolding carried conversed requestEnclosed tagOf longestApdu
   inside-carried get k r =
       rw (
         up,
-        tag-sealed (dedicatedKeys (a .ak) l) (l .han .peer .title) 0xD0 counter text,
+        tag-sealed (dedicatedKeys (a .ak) c l) (ciphering c l .peer .title) 0xD0 counter text,
         k .associated,
         k .agreed,
-        opens-closed (dedicatedKeys (a .ak) l) (l .han .peer .title) 0xD0 counter text (k .small) (k .short),
+        opens-closed (dedicatedKeys (a .ak) c l) (ciphering c l .peer .title) 0xD0 counter text (k .small) (k .short),
         k .window,
         r,
       )
   inside-carried action k r =
       rw (
         up,
-        tag-sealed (dedicatedKeys (a .ak) l) (l .han .peer .title) 0xD3 counter text,
+        tag-sealed (dedicatedKeys (a .ak) c l) (ciphering c l .peer .title) 0xD3 counter text,
         k .associated,
         k .agreed,
-        opens-closed (dedicatedKeys (a .ak) l) (l .han .peer .title) 0xD3 counter text (k .small) (k .short),
+        opens-closed (dedicatedKeys (a .ak) c l) (ciphering c l .peer .title) 0xD3 counter text (k .small) (k .short),
         k .window,
         r,
       )
 
 -- what goes out around the body's answer, and the line that holds the counter taken
-sealed-outcome : (a : Lent) (m : Model) (q : Request) (counter : ℕ) {tag : ℕ} → Enclosed tag
-    → decided p2 (serve q (wrap (a .ak) (headIn a) tag) (advanced (accepted counter (m .line)))) m
+sealed-outcome : (c : CipherClient) (a : Lent) (m : Model) (q : Request) (counter : ℕ) {tag : ℕ} → Enclosed tag
+    → decided p2 (serve q (wrap (a .ak) (Ciphering c) (headIn a) tag) (advanced c (accepted c counter (m .line)))) m
     ≡ record {
       refusal = turned q (m .body) .refusal;
-      sent = toH a (m .line) tag (turned q (m .body) .bytes);
-      next = record { line = advanced (accepted counter (m .line)); body = turned q (m .body) .body };
+      sent = toH a (m .line) c tag (turned q (m .body) .bytes);
+      next = record { line = advanced c (accepted c counter (m .line)); body = turned q (m .body) .body };
     }
 unfolding seal around taken accepting
-sealed-outcome a m q counter get = refl
-sealed-outcome a m q counter action = refl
+sealed-outcome Han a m q counter get = refl
+sealed-outcome Han a m q counter action = refl
+
+-- its part of the test of soundness
+on-link : (c : CipherClient) (l : Line) → linksStand l ≡ true → onLink (ciphering c l .peer) ≡ true
+on-link Han l e = both (onLink (l .verification)) (onLink (l .han .peer)) e .1
 
 pub next-counter : NextCounter
 unfolding greatestApdu longestReceived
-next-counter a m tag counter text q s t k r =
+next-counter c a m tag counter text q s t k r =
     let l = m .line in
-    let env = sealedEnvelope (dedicatedKeys (a .ak) l) (l .han .peer .title) tag counter text in
-    let n = length-envelope (dedicatedKeys (a .ak) l) (l .han .peer .title) tag counter text in
+    let env = sealedEnvelope (dedicatedKeys (a .ak) c l) (ciphering c l .peer .title) tag counter text in
+    let n = length-envelope (dedicatedKeys (a .ak) c l) (ciphering c l .peer .title) tag counter text in
     let size = envelope-size (length text) in
     let short = k .short in
-    let link = both (onLink (l .verification)) (onLink (l .han .peer)) (sound-passes m s associationOnLink) .1 in
-    let reached = ruled-request l a Han env (k .received) (omega arith) (omega arith) in
-    let asked = inside-carried l a (headIn a) (up-of l link (k .associated)) counter text q t k r in
+    let link = on-link c l (sound-passes m s associationOnLink) in
+    let reached = ruled-request l a (Ciphering c) env (k .received) (omega arith) (omega arith) in
+    let asked = inside-carried c l a (headIn a) (up-of (ciphering c l .peer) link (k .associated)) counter text q t k r in
     outcome-ruled a m (k .enough) s
     ∙ ap (λ (x : Ruling). decided p2 (decision x) m) (reached ∙ asked)
-    ∙ sealed-outcome a m (requested Han (selectiveIn Han l) text q) counter t
+    ∙ sealed-outcome c a m (requested (Ciphering c) (selectiveIn (Ciphering c) l) text q) counter t
 
 -- Both rows.
 
@@ -134,7 +140,7 @@ profile-asked invoke = refl
 
 -- the rows, where they fit
 profile-read : (selective : Bool) (invoke : ℕ) (b : Body) (rs : List Entry) → b .store .rows ≡ rs → length (rowsData rs) ≤ dataRoom longestSent
-    → turned (requested Han selective (getProfile invoke) (profileAsked invoke)) b ≡ record { refusal = 0; bytes = getAnswer invoke (granted (rowsData rs)); body = b }
+    → turned (requested (Ciphering Han) selective (getProfile invoke) (profileAsked invoke)) b ≡ record { refusal = 0; bytes = getAnswer invoke (granted (rowsData rs)); body = b }
 unfolding turned requested nameIn filled attributeRead attributeData fitting sameBytes
 profile-read selective invoke b rs e h = rw (e, le-leb (length (rowsData rs)) (dataRoom longestSent) h)
 
@@ -179,38 +185,38 @@ next-small : (n : ℕ) → nextCounter n < 256 ^ 4
 unfolding nextCounter
 next-small n = omega arith
 
--- an answer of H that fits opens
-answer-opens : (a : Lent) (l : Line) (tag counter : ℕ) (wanted : List ℕ) → Asking a l tag counter wanted → (text : List ℕ) → length text ≤ textRoom longestSent
-    → opened (dedicatedKeys (a .ak) l) (l .title) (answerTag tag) (apduOf (toH a l tag text)) ≡ opens (nextCounter (l .han .counters .sent)) text
+-- an answer that fits opens
+answer-opens : (c : CipherClient) (a : Lent) (l : Line) (tag counter : ℕ) (wanted : List ℕ) → Asking c a l tag counter wanted → (text : List ℕ) → length text ≤ textRoom longestSent
+    → opened (dedicatedKeys (a .ak) c l) (l .title) (answerTag tag) (apduOf (toH a l c tag text)) ≡ opens (nextCounter (counters c l .sent)) text
 unfolding greatestApdu longestReceived
-answer-opens a l tag counter wanted k text fits =
-    let number = nextCounter (l .han .counters .sent) in
-    let request = sealedEnvelope (dedicatedKeys (a .ak) l) (l .han .peer .title) tag counter wanted in
-    let answer = sealedEnvelope (dedicatedKeys (a .ak) l) (l .title) (answerTag tag) number text in
+answer-opens c a l tag counter wanted k text fits =
+    let number = nextCounter (counters c l .sent) in
+    let request = sealedEnvelope (dedicatedKeys (a .ak) c l) (ciphering c l .peer .title) tag counter wanted in
+    let answer = sealedEnvelope (dedicatedKeys (a .ak) c l) (l .title) (answerTag tag) number text in
     let short = k .short in
-    let m = length-envelope (dedicatedKeys (a .ak) l) (l .han .peer .title) tag counter wanted in
-    let n = length-envelope (dedicatedKeys (a .ak) l) (l .title) (answerTag tag) number text in
+    let m = length-envelope (dedicatedKeys (a .ak) c l) (ciphering c l .peer .title) tag counter wanted in
+    let n = length-envelope (dedicatedKeys (a .ak) c l) (l .title) (answerTag tag) number text in
     let size = envelope-size (length text) in
     let most = envelope-fits (length text) fits in
-    rw (reply-apdu a Han request answer (k .received) (omega arith) (omega arith) (sent-fits answer (omega arith)))
-    (opens-closed (dedicatedKeys (a .ak) l) (l .title) (answerTag tag) number text (next-small (l .han .counters .sent)) (omega (arith, apdu-room, longest-apdu)))
+    rw (reply-apdu a (Ciphering c) request answer (k .received) (omega arith) (omega arith) (sent-fits answer (omega arith)))
+    (opens-closed (dedicatedKeys (a .ak) c l) (l .title) (answerTag tag) number text (next-small (counters c l .sent)) (omega (arith, apdu-room, longest-apdu)))
 
 second-row-answer : (a : Lent) (m : Model) (t : Clock) (counter invoke : ℕ) → sound m ≡ true → validClock t ≡ true → captureDue (m .body .period) t ≡ true
-    → Asking a (m .line) 0xD0 counter (getProfile invoke) → length (rowsData (bothRows t m)) ≤ dataRoom longestSent
+    → Asking Han a (m .line) 0xD0 counter (getProfile invoke) → length (rowsData (bothRows t m)) ≤ dataRoom longestSent
     → outcome a (twice t m)
     ≡ record {
       refusal = 0;
-      sent = toH a (m .line) 0xD0 (getAnswer invoke (granted (rowsData (bothRows t m))));
-      next = record { line = advanced (accepted counter (m .line)); body = twice t m .body };
+      sent = toH a (m .line) Han 0xD0 (getAnswer invoke (granted (rowsData (bothRows t m))));
+      next = record { line = advanced Han (accepted Han counter (m .line)); body = twice t m .body };
     }
 unfolding afterDue
 second-row-answer a m t counter invoke s v d k fits =
     let n = afterDue t (afterDue t m) in
     let twice-sound : sound n ≡ true = after-sound t (afterDue t m) (after-sound t m s v d) v (still-due t m s v d) in
-    let read = profile-read (selectiveIn Han (m .line)) invoke (n .body) (bothRows t m) (both-rows t m) fits in
+    let read = profile-read (selectiveIn (Ciphering Han) (m .line)) invoke (n .body) (bothRows t m) (both-rows t m) fits in
     rw (twice-due t m s v d)
-    (next-counter a n 0xD0 counter (getProfile invoke) (profileAsked invoke) twice-sound get k (profile-asked invoke)
-    ∙ ap (λ (x : Turn). record { refusal = x .refusal; sent = toH a (m .line) 0xD0 (x .bytes); next = record { line = advanced (accepted counter (m .line)); body = x .body } }) read)
+    (next-counter Han a n 0xD0 counter (getProfile invoke) (profileAsked invoke) twice-sound get k (profile-asked invoke)
+    ∙ ap (λ (x : Turn). record { refusal = x .refusal; sent = toH a (m .line) Han 0xD0 (x .bytes); next = record { line = advanced Han (accepted Han counter (m .line)); body = x .body } }) read)
 
 pub second-row-read : SecondRowRead
 second-row-read a m t counter invoke s v d k fits =
@@ -218,7 +224,7 @@ second-row-read a m t counter invoke s v d k fits =
     let text = getAnswer invoke (granted (rowsData (bothRows t m))) in
     record {
       answer = answer;
-      found = rw answer (answer-opens a (m .line) 0xD0 counter (getProfile invoke) k text (read-fits invoke (granted (rowsData (bothRows t m))) fits));
+      found = rw answer (answer-opens Han a (m .line) 0xD0 counter (getProfile invoke) k text (read-fits invoke (granted (rowsData (bothRows t m))) fits));
     }
 
 -- A new meter with an associated H, at its first clock.
@@ -242,7 +248,7 @@ someLent =
       guk = replicate 16 0;
       ak = replicate 16 0;
       challenge = replicate 8 0;
-      received = requestFrame Han (sealedEnvelope (dedicatedKeys (replicate 16 0) someLine) (replicate 8 0) 0xD0 1 (getProfile 0));
+      received = requestFrame (Ciphering Han) (sealedEnvelope (dedicatedKeys (replicate 16 0) Han someLine) (replicate 8 0) 0xD0 1 (getProfile 0));
     }
 
 some-sound : sound someMeter ≡ true
@@ -257,7 +263,7 @@ some-due : captureDue (someMeter .body .period) newClock ≡ true
 unfolding newMeter captureDue
 some-due = refl
 
-some-asks : Asking someLent someLine 0xD0 1 (getProfile 0)
+some-asks : Asking Han someLent someLine 0xD0 1 (getProfile 0)
 unfolding tagOf within inWindow envelopeLength lengthField greatestApdu longestReceived
 some-asks =
     record {

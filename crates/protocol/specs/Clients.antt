@@ -4,10 +4,12 @@ use mathlib.Core.Bool.{Bool, true, false, not, _&&_}
 use mathlib.Core.List.{List}
 use Prim.Native.Nat.{ℕ}
 use Rattle.model.specs.declared.Client.{Client}
-use Rattle.model.specs.declared.Client.the-variants.{Verification, Han}
+use Rattle.model.specs.declared.Client.the-variants.{Verification, Ciphering}
+use Rattle.model.specs.declared.CipherClient.the-variants.{Han}
+use Rattle.model.specs.declared.CipherClient.{CipherClient}
 use Rattle.model.specs.declared.Counters.{Counters}
 use Rattle.model.specs.Services.{within, getService, actionService, selectiveAccess}
-use Rattle.model.specs.State.{Association, none, pending, associated, Peer, Line}
+use Rattle.model.specs.State.{Association, none, pending, associated, Peer, CipheringPeer, Line}
 use Rattle.model.specs.Soundness.{isNone}
 use Rattle.cosem.specs.declared.Tag.{Tag}
 use Rattle.cosem.specs.declared.Tag.the-variants.{Aarq, Rlrq, GetRequest, SetRequest, ActionRequest, GloActionRequest, DedGetRequest, DedSetRequest, DedActionRequest, Unknown}
@@ -18,14 +20,19 @@ use Rattle.protocol.specs.declared.Secrets.{Secrets}
 
 -- A client's part of the line.
 
+abbrev pub ciphering : CipherClient → Line → CipheringPeer
+ciphering Han l = l .han
+
+abbrev pub withCiphering : CipherClient → CipheringPeer → Line → Line
+withCiphering Han p l = record { title = l .title; verification = l .verification; han = p; p5 = l .p5 }
+
 abbrev pub peer : Client → Line → Peer
 peer Verification l = l .verification
-peer Han l = l .han .peer
+peer (Ciphering c) l = ciphering c l .peer
 
 abbrev pub withPeer : Client → Peer → Line → Line
 withPeer Verification p l = record { title = l .title; verification = p; han = l .han; p5 = l .p5 }
-withPeer Han p l =
-    record { title = l .title; verification = l .verification; han = record { peer = p; counters = l .han .counters }; p5 = l .p5 }
+withPeer (Ciphering c) p l = withCiphering c (record { peer = p; counters = ciphering c l .counters }) l
 
 -- its link up, or down, and no association
 abbrev pub linked : Bool → Peer → Peer
@@ -38,23 +45,29 @@ withAssociation a p = record { title = p .title; up = p .up; association = a }
 abbrev pub associates : Client → Association → Line → Line
 associates c a l = withPeer c (withAssociation a (peer c l)) l
 
--- the counters of H
-abbrev pub withCounters : Counters → Line → Line
-withCounters n l =
-    record { title = l .title; verification = l .verification; han = record { peer = l .han .peer; counters = n }; p5 = l .p5 }
+-- the counters of a client that ciphers
+abbrev pub counters : CipherClient → Line → Counters
+counters c l = ciphering c l .counters
+
+abbrev pub withCounters : CipherClient → Counters → Line → Line
+withCounters c n l = withCiphering c (record { peer = ciphering c l .peer; counters = n }) l
+
+-- its association
+abbrev pub held : CipherClient → Line → Association
+held c l = ciphering c l .peer .association
 
 abbrev pub selectiveIn : Client → Line → Bool
 selectiveIn c l = within selectiveAccess (agreedIn (peer c l .association))
 
--- The keys of H, the one client that ciphers.
+-- The keys of a client that ciphers.
 
 -- "GUK for 21, 28, CB, CF"
 abbrev pub lentKeys : Secrets → Keys
 lentKeys a = keysFrom (a .guk) (a .ak)
 
 -- "the dedicated key for D0, D3 (requests) and D4, D7 (answers)"
-abbrev pub dedicatedKeys : (ak : List ℕ) → Line → Keys
-dedicatedKeys ak l = keysFrom (keyIn (l .han .peer .association)) ak
+abbrev pub dedicatedKeys : (ak : List ℕ) → CipherClient → Line → Keys
+dedicatedKeys ak c l = keysFrom (keyIn (held c l)) ak
 
 -- What is permitted.
 

@@ -8,7 +8,10 @@ use Prim.Native.Nat.{ℕ, _+_}
 use lib.Dec.{eqb}
 use lib.ListN.{take, drop}
 use Rattle.model.specs.declared.Client.{Client}
-use Rattle.model.specs.declared.Client.the-variants.{Verification, Han}
+use Rattle.model.specs.declared.CipherClient.{CipherClient}
+use Rattle.model.specs.declared.Client.the-variants.{Verification, Ciphering}
+use Rattle.model.specs.declared.CipherClient.the-variants.{Han}
+use Rattle.model.specs.declared.Name.{Name}
 use Rattle.model.specs.Names.{sameName}
 use Rattle.model.specs.Services.{offered, common}
 use Rattle.model.specs.State.{none, pending, associated, Line}
@@ -40,12 +43,11 @@ use Rattle.acse.specs.Aarq.{readAarq}
 use Rattle.acse.specs.Aare.{plainAare, cipheredAareHead}
 use Rattle.counters.specs.Advance.{taken}
 use Rattle.counters.specs.Window.{inWindow, accepting}
-use Rattle.envelope.specs.Layout.{Keys, sealedEnvelope}
 use Rattle.envelope.specs.Opening.{Opened, fails, opens, opened}
-use Rattle.envelope.specs.Challenge.{rightProof, proofValue}
+use Rattle.envelope.specs.Challenge.{rightProof}
 use Rattle.protocol.specs.declared.Secrets.{Secrets}
-use Rattle.protocol.specs.Clients.{peer, withPeer, linked, associates, withCounters, agreedIn, keyIn, clientChallenge, meterChallenge, selectiveIn, lentKeys, dedicatedKeys, permitted, bitAgreed, isUnknown}
-use Rattle.protocol.specs.Rulings.{none as noTest, frame, linkUpWithInformation, p5HoldsV, linkDownWhileDown, dataWhileDown, unknownTag, tagNotPermitted, bitNotAgreed, envelopeUnopened, outsideWindow, notTheChallenge, wrongProof, nothing, ua, dm, reject, apdu, Ruling, says, asks, refusedAarq, refusedMalformed, decision}
+use Rattle.protocol.specs.Clients.{ciphering, peer, withPeer, linked, associates, counters, withCounters, held, agreedIn, keyIn, clientChallenge, meterChallenge, selectiveIn, lentKeys, dedicatedKeys, permitted, bitAgreed, isUnknown}
+use Rattle.protocol.specs.Rulings.{Text, none as noTest, frame, linkUpWithInformation, p5HoldsV, linkDownWhileDown, dataWhileDown, unknownTag, tagNotPermitted, bitNotAgreed, envelopeUnopened, outsideWindow, notTheChallenge, wrongProof, plain, proof, Envelope, closed, nothing, ua, dm, reject, apdu, encloses, Ruling, says, asks, refusedAarq, refusedMalformed, decision}
 
 -- Links.
 
@@ -53,7 +55,7 @@ use Rattle.protocol.specs.Rulings.{none as noTest, frame, linkUpWithInfo
 -- association ended."
 abbrev pub heldByP5 : Client → Line → Bool
 heldByP5 Verification l = l .p5
-heldByP5 Han l = false
+heldByP5 (Ciphering c) l = false
 
 unfoldable pub linkUp : Line → Client → Head → Bool → Ruling
 linkUp l c h information =
@@ -74,29 +76,42 @@ acceptedPlain l h proposed =
     let agreed = common proposed (offered Verification) in
     says noTest (apdu h (plainAare Verification (l .title) agreed)) (associates Verification (associated agreed []) l)
 
+-- an envelope of the meter under GUK
+abbrev pub underGuk : Line → Secrets → CipherClient → (tag number : ℕ) → Text → Envelope
+underGuk l a c tag number text = record { client = c; key = a .guk; ak = a .ak; title = l .title; tag = tag; number = number; text = text }
+
 -- "H pending": the client's counter becomes the last accepted, the meter's goes one on and is used in the envelope of tag 28
-unfoldable pub acceptedCiphered : Line → Secrets → Head → (client key proposed : List ℕ) → (counter : ℕ) → Ruling
-acceptedCiphered l a h client key proposed counter =
-    let agreed = common proposed (offered Han) in
-    let next = taken (accepting (l .han .counters) counter) in
-    let response = sealedEnvelope (lentKeys a) (l .title) 0x28 (next .number) (initiateResponse agreed) in
-    says noTest (apdu h (cipheredAareHead Han (l .title) (a .challenge) ++ response))
-    (withCounters (next .counters) (associates Han (pending agreed key client (a .challenge)) l))
+unfoldable pub acceptedCiphered : Line → Secrets → CipherClient → Head → (client key proposed : List ℕ) → (counter : ℕ) → Ruling
+acceptedCiphered l a c h client key proposed counter =
+    let agreed = common proposed (offered (Ciphering c)) in
+    let next = taken (accepting (counters c l) counter) in
+    says noTest
+    (encloses h (cipheredAareHead (Ciphering c) (l .title) (a .challenge)) (underGuk l a c 0x28 (next .number) (plain (initiateResponse agreed))))
+    (withCounters c (next .counters) (associates (Ciphering c) (pending agreed key client (a .challenge)) l))
 
--- by H's opened initiate request
-abbrev pub initiated : Line → Secrets → Head → (client text : List ℕ) → (counter : ℕ) → InitiateRequest → Ruling
-initiated l a h client text counter (Accepted k s) = acceptedCiphered l a h client (take 16 (drop k text)) (take 3 (drop s text)) counter
-initiated l a h client text counter RequestDeparts = refusedAarq Han h l
+-- by the opened initiate request of a client that ciphers
+abbrev pub initiated : Line → Secrets → CipherClient → Head → (client text : List ℕ) → (counter : ℕ) → InitiateRequest → Ruling
+initiated l a c h client text counter (Accepted k s) = acceptedCiphered l a c h client (take 16 (drop k text)) (take 3 (drop s text)) counter
+initiated l a c h client text counter RequestDeparts = refusedAarq (Ciphering c) h l
 
-abbrev pub enclosed : Line → Secrets → Head → (client : List ℕ) → Opened → Ruling
-enclosed l a h client fails = refusedAarq Han h l
-enclosed l a h client (opens counter text) = initiated l a h client text counter (readRequest text)
+abbrev pub enclosed : Line → Secrets → CipherClient → Head → (client : List ℕ) → Opened → Ruling
+enclosed l a c h client fails = refusedAarq (Ciphering c) h l
+enclosed l a c h client (opens counter text) = initiated l a c h client text counter (readRequest text)
 
--- by the client's AARQ, which is plain from V alone and ciphered from H alone
+-- a plain AARQ, and one with an envelope
+abbrev pub plainFrom : Line → Client → Head → (proposed : List ℕ) → Ruling
+plainFrom l Verification h proposed = acceptedPlain l h proposed
+plainFrom l (Ciphering c) h proposed = refusedAarq (Ciphering c) h l
+
+abbrev pub cipheredFrom : Line → Secrets → Client → Head → (client envelope : List ℕ) → Ruling
+cipheredFrom l a Verification h client envelope = refusedAarq Verification h l
+cipheredFrom l a (Ciphering c) h client envelope =
+    enclosed l a c h client (opened (lentKeys a) (ciphering c l .peer .title) 0x21 envelope)
+
+-- by the client's AARQ, which is plain from V alone and ciphered from a client that ciphers alone
 abbrev pub associating : Line → Secrets → Client → Head → List ℕ → ReadAarq → Ruling
-associating l a c h s (Plain p) = acceptedPlain l h (take 3 (drop p s))
-associating l a c h s (Ciphered d e) =
-    enclosed l a h (take 8 (drop d s)) (opened (lentKeys a) (l .han .peer .title) 0x21 (drop e s))
+associating l a c h s (Plain p) = plainFrom l c h (take 3 (drop p s))
+associating l a c h s (Ciphered d e) = cipheredFrom l a c h (take 8 (drop d s)) (drop e s)
 associating l a c h s Departs = refusedAarq c h l
 
 -- "RLRQ is 62 03 80 01 00, answered 63 03 80 01 00, plain, and the state is none"
@@ -106,27 +121,27 @@ released l c h s =
 
 -- Requests.
 
--- what goes around the body's answer: addresses exchanged, the tag received, AK
-abbrev pub wrap : (ak : List ℕ) → Head → ℕ → Wrap
-wrap ak h tag = record { destination = h .source; source = h .destination; tag = tag; ak = ak }
+-- what goes around the body's answer: addresses exchanged, the client, the tag received, AK
+abbrev pub wrap : (ak : List ℕ) → Client → Head → ℕ → Wrap
+wrap ak c h tag = record { destination = h .source; source = h .destination; client = c; tag = tag; ak = ak }
 
 -- a plain request
 abbrev pub asked : Line → Secrets → Client → Head → List ℕ → Reading → Ruling
 asked l a c h s Malformed = refusedMalformed h l
-asked l a c h s (Asks q) = asks (requested c (selectiveIn c l) s q) (wrap (a .ak) h 0xC0) l
+asked l a c h s (Asks q) = asks (requested c (selectiveIn c l) s q) (wrap (a .ak) Verification h 0xC0) l
 
 -- the line after an envelope's counter has become the last accepted, and after the meter's own has gone on besides
-abbrev pub accepted : ℕ → Line → Line
-accepted counter l = withCounters (accepting (l .han .counters) counter) l
+abbrev pub accepted : CipherClient → ℕ → Line → Line
+accepted c counter l = withCounters c (accepting (counters c l) counter) l
 
-abbrev pub advanced : Line → Line
-advanced l = withCounters (taken (l .han .counters) .counters) l
+abbrev pub advanced : CipherClient → Line → Line
+advanced c l = withCounters c (taken (counters c l) .counters) l
 
--- an opened request of H: its answer will take the meter's next counter, granted or denied
-abbrev pub askedInside : Line → Secrets → Head → (tag counter : ℕ) → List ℕ → Reading → Ruling
-askedInside l a h tag counter text Malformed = refusedMalformed h (accepted counter l)
-askedInside l a h tag counter text (Asks q) =
-    asks (requested Han (selectiveIn Han l) text q) (wrap (a .ak) h tag) (advanced (accepted counter l))
+-- an opened request: its answer will take the meter's next counter, granted or denied
+abbrev pub askedInside : Line → Secrets → CipherClient → Head → (tag counter : ℕ) → List ℕ → Reading → Ruling
+askedInside l a c h tag counter text Malformed = refusedMalformed h (accepted c counter l)
+askedInside l a c h tag counter text (Asks q) =
+    asks (requested (Ciphering c) (selectiveIn (Ciphering c) l) text q) (wrap (a .ak) (Ciphering c) h tag) (advanced c (accepted c counter l))
 
 -- GET in D0, ACTION in D3
 unfoldable pub readInside : ℕ → List ℕ → Reading
@@ -141,8 +156,11 @@ onFirstMethod (ReadSelected a k at) = false
 onFirstMethod (Invoke k) = eqb k 1
 onFirstMethod (InvokeWith k at) = eqb k 1
 
-unfoldable pub isChallenge : List ℕ → Asked → Bool
-isChallenge text q = eqb (q .class) 15 && sameName challengeNamed (nameIn text) && onFirstMethod (q .wanted)
+abbrev pub challengeOf : CipherClient → Name
+challengeOf Han = challengeNamed
+
+unfoldable pub isChallenge : CipherClient → List ℕ → Asked → Bool
+isChallenge c text q = eqb (q .class) 15 && sameName (challengeOf c) (nameIn text) && onFirstMethod (q .wanted)
 
 -- the parameter; none is no proof
 abbrev pub proofIn : List ℕ → Wanted → List ℕ
@@ -151,72 +169,72 @@ proofIn text (ReadSelected a k at) = []
 proofIn text (Invoke k) = []
 proofIn text (InvokeWith k at) = drop at text
 
--- the answer to a right proof: the head of an ACTION's answer with data, and the meter's own proof
-unfoldable pub provedText : Keys → (title challenge : List ℕ) → (invoke number : ℕ) → List ℕ
-provedText k title challenge invoke number =
-    (0xC7 ∷ 0x01 ∷ invoke ∷ 0x00 ∷ 0x01 ∷ 0x00 ∷ []) ++ proofValue k title challenge number
-
 -- "the meter answers likewise (CF) over H's challenge and H is associated": the proof takes a counter before its envelope
-unfoldable pub proved : Line → Secrets → Head → (invoke counter : ℕ) → Ruling
-proved l a h invoke counter =
-    let held = l .han .peer .association in
-    let first = taken (accepting (l .han .counters) counter) in
+unfoldable pub proved : Line → Secrets → CipherClient → Head → (invoke counter : ℕ) → Ruling
+proved l a c h invoke counter =
+    let first = taken (accepting (counters c l) counter) in
     let second = taken (first .counters) in
-    let text = provedText (lentKeys a) (l .title) (clientChallenge held) invoke (first .number) in
-    says noTest (apdu h (sealedEnvelope (lentKeys a) (l .title) 0xCF (second .number) text))
-    (withCounters (second .counters) (associates Han (associated (agreedIn held) (keyIn held)) l))
+    says noTest
+    (encloses h [] (underGuk l a c 0xCF (second .number) (proof invoke (first .number) (clientChallenge (held c l)))))
+    (withCounters c (second .counters) (associates (Ciphering c) (associated (agreedIn (held c l)) (keyIn (held c l))) l))
 
 -- "a wrong proof, or any other parameter or none, answers 250 and the state is none"
-unfoldable pub disproved : Line → Secrets → Head → (invoke counter : ℕ) → Ruling
-disproved l a h invoke counter =
-    let first = taken (accepting (l .han .counters) counter) in
-    says wrongProof (apdu h (sealedEnvelope (lentKeys a) (l .title) 0xCF (first .number) (actionAnswer invoke (denied 250))))
-    (withCounters (first .counters) (associates Han none l))
+unfoldable pub disproved : Line → Secrets → CipherClient → Head → (invoke counter : ℕ) → Ruling
+disproved l a c h invoke counter =
+    let first = taken (accepting (counters c l) counter) in
+    says wrongProof
+    (encloses h [] (underGuk l a c 0xCF (first .number) (plain (actionAnswer invoke (denied 250)))))
+    (withCounters c (first .counters) (associates (Ciphering c) none l))
 
--- H's proof is right
-unfoldable pub provesItself : Line → Secrets → (counter : ℕ) → List ℕ → Asked → Bool
-provesItself l a counter text q =
-    rightProof (lentKeys a) (l .han .peer .title) (meterChallenge (l .han .peer .association)) (l .han .counters .accepted) counter
+-- the client's proof is right
+unfoldable pub provesItself : Line → Secrets → CipherClient → (counter : ℕ) → List ℕ → Asked → Bool
+provesItself l a c counter text q =
+    rightProof (lentKeys a) (ciphering c l .peer .title) (meterChallenge (held c l)) (counters c l .accepted) counter
     (proofIn text (q .wanted))
 
-unfoldable pub challenged : Line → Secrets → Head → (counter : ℕ) → List ℕ → Asked → Ruling
-challenged l a h counter text q =
-    cond (not (isChallenge text q)) (says notTheChallenge (apdu h (exceptionBytes ServiceNotAllowed)) (accepted counter l))
-    (cond (provesItself l a counter text q) (proved l a h (q .invoke) counter)
-    (disproved l a h (q .invoke) counter))
+unfoldable pub challenged : Line → Secrets → CipherClient → Head → (counter : ℕ) → List ℕ → Asked → Ruling
+challenged l a c h counter text q =
+    cond (not (isChallenge c text q)) (says notTheChallenge (apdu h (exceptionBytes ServiceNotAllowed)) (accepted c counter l))
+    (cond (provesItself l a c counter text q) (proved l a c h (q .invoke) counter)
+    (disproved l a c h (q .invoke) counter))
 
-abbrev pub answeredChallenge : Line → Secrets → Head → (counter : ℕ) → List ℕ → Reading → Ruling
-answeredChallenge l a h counter text Malformed = refusedMalformed h (accepted counter l)
-answeredChallenge l a h counter text (Asks q) = challenged l a h counter text q
+abbrev pub answeredChallenge : Line → Secrets → CipherClient → Head → (counter : ℕ) → List ℕ → Reading → Ruling
+answeredChallenge l a c h counter text Malformed = refusedMalformed h (accepted c counter l)
+answeredChallenge l a c h counter text (Asks q) = challenged l a c h counter text q
 
--- Envelopes of H.
+-- Envelopes of a client that ciphers.
 
 -- "then refusals 6 and 7": the counter is looked at once the envelope has opened; outside its window the association is dropped
-abbrev pub admitted : Line → Opened → ((counter : ℕ) → List ℕ → Ruling) → Ruling
-admitted l fails inside = says envelopeUnopened nothing l
-admitted l (opens counter text) inside =
-    cond (inWindow (l .han .counters .accepted) counter) (inside counter text) (says outsideWindow nothing (associates Han none l))
+abbrev pub admitted : Line → CipherClient → Opened → ((counter : ℕ) → List ℕ → Ruling) → Ruling
+admitted l c fails inside = says envelopeUnopened nothing l
+admitted l c (opens counter text) inside =
+    cond (inWindow (counters c l .accepted) counter) (inside counter text) (says outsideWindow nothing (associates (Ciphering c) none l))
 
 -- CB, under GUK
-unfoldable pub challengeEnclosed : Line → Secrets → Head → List ℕ → Ruling
-challengeEnclosed l a h s =
-    admitted l (opened (lentKeys a) (l .han .peer .title) 0xCB s) (λ counter text. answeredChallenge l a h counter text (readAction text))
+unfoldable pub challengeEnclosed : Line → Secrets → CipherClient → Head → List ℕ → Ruling
+challengeEnclosed l a c h s =
+    admitted l c (opened (lentKeys a) (ciphering c l .peer .title) 0xCB s) (λ counter text. answeredChallenge l a c h counter text (readAction text))
 
 -- D0 and D3, under the dedicated key
-unfoldable pub requestEnclosed : Line → Secrets → Head → (tag : ℕ) → List ℕ → Ruling
-requestEnclosed l a h tag s =
-    admitted l (opened (dedicatedKeys (a .ak) l) (l .han .peer .title) tag s)
-    (λ counter text. askedInside l a h tag counter text (readInside tag text))
+unfoldable pub requestEnclosed : Line → Secrets → CipherClient → Head → (tag : ℕ) → List ℕ → Ruling
+requestEnclosed l a c h tag s =
+    admitted l c (opened (dedicatedKeys (a .ak) c l) (ciphering c l .peer .title) tag s)
+    (λ counter text. askedInside l a c h tag counter text (readInside tag text))
 
 -- By the tag of the APDU.
+
+-- of a client that ciphers; the tags of envelopes are not permitted to another
+abbrev pub ofCiphering : Line → Client → Head → (CipherClient → Ruling) → Ruling
+ofCiphering l Verification h r = says tagNotPermitted (apdu h (exceptionBytes ServiceNotAllowed)) l
+ofCiphering l (Ciphering c) h r = r c
 
 abbrev pub byTag : Line → Secrets → Client → Head → List ℕ → Tag → Ruling
 byTag l a c h s Aarq = associating l a c h s (readAarq s c (peer c l .title))
 byTag l a c h s Rlrq = released l c h s
 byTag l a c h s GetRequest = asked l a c h s (readGet s)
-byTag l a c h s GloActionRequest = challengeEnclosed l a h s
-byTag l a c h s DedGetRequest = requestEnclosed l a h 0xD0 s
-byTag l a c h s DedActionRequest = requestEnclosed l a h 0xD3 s
+byTag l a c h s GloActionRequest = ofCiphering l c h (λ k. challengeEnclosed l a k h s)
+byTag l a c h s DedGetRequest = ofCiphering l c h (λ k. requestEnclosed l a k h 0xD0 s)
+byTag l a c h s DedActionRequest = ofCiphering l c h (λ k. requestEnclosed l a k h 0xD3 s)
 -- never reached, as no state permits these tags; whatever stood here, every APDU would be ruled the same (`Unreached`, below)
 byTag l a c h s SetRequest = says tagNotPermitted (apdu h (exceptionBytes ServiceNotAllowed)) l
 byTag l a c h s ActionRequest = says tagNotPermitted (apdu h (exceptionBytes ServiceNotAllowed)) l
@@ -276,10 +294,18 @@ decide l a = decision (ruled l a)
 abbrev pub answerTag : ℕ → ℕ
 answerTag tag = tag + 4
 
--- to V plain; to H in an envelope under the counter that was taken
+-- the envelope around an answer, under the counter that was taken
+abbrev pub answerEnvelope : Line → (ak : List ℕ) → CipherClient → (tag : ℕ) → List ℕ → Envelope
+answerEnvelope l ak c tag text =
+    record { client = c; key = keyIn (held c l); ak = ak; title = l .title; tag = answerTag tag; number = counters c l .sent; text = plain text }
+
+-- to V plain; to a client that ciphers in an envelope
+abbrev pub aroundFor : Line → Wrap → Client → List ℕ → List ℕ
+aroundFor l w Verification text = text
+aroundFor l w (Ciphering c) text = closed (answerEnvelope l (w .ak) c (w .tag) text)
+
 unfoldable pub around : Line → Wrap → List ℕ → List ℕ
-around l w text =
-    cond (eqb (w .tag) 0xC0) text (sealedEnvelope (dedicatedKeys (w .ak) l) (l .title) (answerTag (w .tag)) (l .han .counters .sent) text)
+around l w text = aroundFor l w (w .client) text
 
 unfoldable pub seal : Line → Wrap → List ℕ → List ℕ
 seal l w text = frameOf (w .destination) (w .source) ui (replyLlc ++ around l w text)

@@ -10,7 +10,9 @@ use Prim.Native.Nat.{ℕ, _+_, _-_, _^_, _≤_, _<_}
 use lib.ListN.{length, take}
 use Rattle.wire.specs.Numbers.{numberHigh}
 use Rattle.model.specs.declared.Client.{Client}
-use Rattle.model.specs.declared.Client.the-variants.{Verification, Han}
+use Rattle.model.specs.declared.Client.the-variants.{Verification, Ciphering}
+use Rattle.model.specs.declared.CipherClient.{CipherClient}
+use Rattle.model.specs.declared.CipherClient.the-variants.{Han}
 use Rattle.model.specs.declared.Clock.{Clock}
 use Rattle.model.specs.Limits.{longestSent, longestReceived, replyRoom, envelopeLength, greatestApdu, dataRoom, leastSize, maxRows}
 use Rattle.model.specs.Clocks.{validClock}
@@ -41,8 +43,9 @@ use Rattle.envelope.specs.Layout.{Keys, keysFrom, sealedEnvelope}
 use Rattle.envelope.specs.Opening.{opens, opened}
 use Rattle.envelope.specs.Challenge.{proofValue}
 use Rattle.meter.specs.SameSecond.{nextRow}
-use Rattle.protocol.specs.Clients.{peer, withPeer, linked, associates, withCounters, agreedIn, keyIn, selectiveIn, isAssociated, bitAgreed}
-use Rattle.protocol.specs.Decide.{readInside, accepted, advanced, provedText, p2}
+use Rattle.protocol.specs.Clients.{ciphering, held, peer, withPeer, linked, associates, withCounters, agreedIn, keyIn, selectiveIn, isAssociated, bitAgreed}
+use Rattle.protocol.specs.Rulings.{provedText}
+use Rattle.protocol.specs.Decide.{readInside, accepted, advanced, p2}
 use Rattle.protocol.specs.Examples.{linkUpFrame}
 use Rattle.protocol.specs.Outcomes.{outcome, headIn, apduOf, said, Enclosed, Accepted, toH}
 
@@ -168,13 +171,13 @@ unfoldable pub proofOfH : (invoke : ℕ) → (proof : List ℕ) → List ℕ
 proofOfH invoke proof =
     (0xC3 ∷ 0x01 ∷ invoke ∷ 0x00 ∷ 0x0F ∷ 0x00 ∷ 0x00 ∷ 0x28 ∷ 0x00 ∷ 0x04 ∷ 0xFF ∷ 0x01 ∷ 0x01 ∷ []) ++ proof
 
--- The keys are those that H has, told here apart from the meter's `lentKeys` and `dedicatedKeys`: GUK, and AK beside it, until it
+-- The keys are those that the client has, told here apart from the meter's `lentKeys` and `dedicatedKeys`: GUK, and AK beside it, until it
 -- is associated; then its dedicated key, and AK beside it.
 abbrev pub entranceKeys : Lent → Keys
 entranceKeys a = keysFrom (a .guk) (a .ak)
 
-abbrev pub requestKeys : Lent → Line → Keys
-requestKeys a l = keysFrom (keyIn (l .han .peer .association)) (a .ak)
+abbrev pub requestKeys : CipherClient → Lent → Line → Keys
+requestKeys c a l = keysFrom (keyIn (held c l)) (a .ak)
 
 -- what H sends: its dedicated key and challenge, its services and size, the counters of its AARQ, of its proof and of the
 -- envelope around that, and the invoke byte
@@ -203,32 +206,32 @@ pub record Allowed (e : Entrance) : Type 0 where
 
 -- the three frames, by H's title; the second is lent the challenge that the third answers
 pub record Enters (title : List ℕ) (e : Entrance) (link aarq proof : Lent) : Type 0 where
-  pub links : LinksUp Han link
+  pub links : LinksUp (Ciphering Han) link
   pub asks :
       aarq .received
-      ≡ requestFrame Han
+      ≡ requestFrame (Ciphering Han)
       (aarqOfH title (e .challenge)
       (sealedEnvelope (entranceKeys aarq) title 0x21 (e .first) (initiateOfH (e .key) (e .services) (e .size))))
   pub proves :
       proof .received
-      ≡ requestFrame Han
+      ≡ requestFrame (Ciphering Han)
       (sealedEnvelope (entranceKeys proof) title 0xCB (e .outer)
       (proofOfH (e .invoke) (proofValue (entranceKeys proof) title (aarq .challenge) (e .inner))))
 
 -- each is accepted. The AARE's envelope goes out under the meter's counter plus one, and H is pending; the meter's proof goes out
 -- under the next, its envelope under the one after, and H is associated with the services agreed and its key.
 pub record LetInH (m : Model) (e : Entrance) (link aarq proof : Lent) : Type 0 where
-  pub first : outcome link m ≡ said 0 (uaFrame (headIn link)) (up Han (m .line)) m
+  pub first : outcome link m ≡ said 0 (uaFrame (headIn link)) (up (Ciphering Han) (m .line)) m
   pub second :
       outcome aarq (outcome link m .next)
       ≡ (let sent = m .line .han .counters .sent in
-      let agreed = common (e .services) (offered Han) in
+      let agreed = common (e .services) (offered (Ciphering Han)) in
       said 0
       (apduFrame (headIn aarq)
-      (cipheredAareHead Han (m .line .title) (aarq .challenge)
+      (cipheredAareHead (Ciphering Han) (m .line .title) (aarq .challenge)
       ++ sealedEnvelope (entranceKeys aarq) (m .line .title) 0x28 (nextCounter sent) (initiateResponse agreed)))
-      (withCounters (record { accepted = e .first; sent = nextCounter sent })
-      (associates Han (pending agreed (e .key) (e .challenge) (aarq .challenge)) (up Han (m .line))))
+      (withCounters Han (record { accepted = e .first; sent = nextCounter sent })
+      (associates (Ciphering Han) (pending agreed (e .key) (e .challenge) (aarq .challenge)) (up (Ciphering Han) (m .line))))
       m)
   pub third :
       outcome proof (outcome aarq (outcome link m .next) .next)
@@ -237,8 +240,8 @@ pub record LetInH (m : Model) (e : Entrance) (link aarq proof : Lent) : Type 0 w
       said 0
       (apduFrame (headIn proof)
       (sealedEnvelope keys (m .line .title) 0xCF (nextCounter number) (provedText keys (m .line .title) (e .challenge) (e .invoke) number)))
-      (withCounters (record { accepted = e .outer; sent = nextCounter number })
-      (associates Han (associated (common (e .services) (offered Han)) (e .key)) (up Han (m .line))))
+      (withCounters Han (record { accepted = e .outer; sent = nextCounter number })
+      (associates (Ciphering Han) (associated (common (e .services) (offered (Ciphering Han))) (e .key)) (up (Ciphering Han) (m .line))))
       m)
 
 abbrev pub HanLetIn : Type 0
@@ -253,32 +256,32 @@ HanLetIn =
     → Enters (m .line .han .peer .title) e link aarq proof
     → LetInH m e link aarq proof
 
--- An invented counter: every request of H that is opened and read.
+-- An invented counter: every request in an envelope that is opened and read.
 
--- an associated H asks this text with this tag, in an envelope under the dedicated key, with a counter in the window
-pub record Asking (a : Lent) (l : Line) (tag counter : ℕ) (text : List ℕ) : Type 0 where
+-- an associated client asks this text with this tag, in an envelope under the dedicated key, with a counter in the window
+pub record Asking (c : CipherClient) (a : Lent) (l : Line) (tag counter : ℕ) (text : List ℕ) : Type 0 where
   pub enough : Enough a
-  pub associated : isAssociated (l .han .peer .association) ≡ true
-  pub agreed : bitAgreed (agreedIn (l .han .peer .association)) (tagOf tag) ≡ true
-  pub window : Accepted counter l
+  pub associated : isAssociated (held c l) ≡ true
+  pub agreed : bitAgreed (agreedIn (held c l)) (tagOf tag) ≡ true
+  pub window : Accepted c counter l
   pub small : counter < 256 ^ 4
   pub short : envelopeLength (length text) ≤ greatestApdu longestReceived
-  pub received : a .received ≡ requestFrame Han (sealedEnvelope (requestKeys a l) (l .han .peer .title) tag counter text)
+  pub received : a .received ≡ requestFrame (Ciphering c) (sealedEnvelope (requestKeys c a l) (ciphering c l .peer .title) tag counter text)
 
 -- it has the body's answer, sealed under the meter's counter plus one, which the line then holds beside the client's
 abbrev pub NextCounter : Type 0
 NextCounter =
-    (a : Lent) (m : Model) (tag counter : ℕ) (text : List ℕ) (q : Asked)
+    (c : CipherClient) (a : Lent) (m : Model) (tag counter : ℕ) (text : List ℕ) (q : Asked)
     → sound m ≡ true
     → Enclosed tag
-    → Asking a (m .line) tag counter text
+    → Asking c a (m .line) tag counter text
     → readInside tag text ≡ Asks q
     → outcome a m
-    ≡ (let t = turned (requested Han (selectiveIn Han (m .line)) text q) (m .body) in
+    ≡ (let t = turned (requested (Ciphering c) (selectiveIn (Ciphering c) (m .line)) text q) (m .body) in
     record {
       refusal = t .refusal;
-      sent = toH a (m .line) tag (t .bytes);
-      next = record { line = advanced (accepted counter (m .line)); body = t .body };
+      sent = toH a (m .line) c tag (t .bytes);
+      next = record { line = advanced c (accepted c counter (m .line)); body = t .body };
     })
 
 -- "The one that takes the first row and only pretends at the second."
@@ -303,11 +306,11 @@ pub record RowsRead (a : Lent) (m : Model) (t : Clock) (counter invoke : ℕ) : 
       outcome a (twice t m)
       ≡ record {
         refusal = 0;
-        sent = toH a (m .line) 0xD0 (getAnswer invoke (granted (rowsData (bothRows t m))));
-        next = record { line = advanced (accepted counter (m .line)); body = twice t m .body };
+        sent = toH a (m .line) Han 0xD0 (getAnswer invoke (granted (rowsData (bothRows t m))));
+        next = record { line = advanced Han (accepted Han counter (m .line)); body = twice t m .body };
       }
   pub found :
-      opened (requestKeys a (m .line)) (m .line .title) 0xD4 (apduOf (outcome a (twice t m) .sent))
+      opened (requestKeys Han a (m .line)) (m .line .title) 0xD4 (apduOf (outcome a (twice t m) .sent))
       ≡ opens (nextCounter (m .line .han .counters .sent)) (getAnswer invoke (granted (rowsData (bothRows t m))))
 
 -- after two due ticks of the same clock H reads both rows, in an envelope, where they fit one
@@ -317,7 +320,7 @@ SecondRowRead =
     → sound m ≡ true
     → validClock t ≡ true
     → captureDue (m .body .period) t ≡ true
-    → Asking a (m .line) 0xD0 counter (getProfile invoke)
+    → Asking Han a (m .line) 0xD0 counter (getProfile invoke)
     → length (rowsData (bothRows t m)) ≤ dataRoom longestSent
     → RowsRead a m t counter invoke
 
@@ -331,5 +334,5 @@ pub record SecondRowHappens : Type 0 where
   pub isSound : sound meter ≡ true
   pub isValid : validClock clock ≡ true
   pub isDue : captureDue (meter .body .period) clock ≡ true
-  pub asks : Asking lent (meter .line) 0xD0 counter (getProfile invoke)
+  pub asks : Asking Han lent (meter .line) 0xD0 counter (getProfile invoke)
   pub fits : length (rowsData (bothRows clock meter)) ≤ dataRoom longestSent

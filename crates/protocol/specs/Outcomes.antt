@@ -9,7 +9,8 @@ use Prim.Native.Nat.{ℕ, _-_, _≤_}
 use lib.ListN.{length, take}
 use Rattle.wire.specs.Reading.{part}
 use Rattle.model.specs.declared.Client.{Client}
-use Rattle.model.specs.declared.Client.the-variants.{Verification, Han}
+use Rattle.model.specs.declared.CipherClient.{CipherClient}
+use Rattle.model.specs.declared.Client.the-variants.{Verification, Ciphering}
 use Rattle.model.specs.Limits.{longestSent, replyRoom}
 use Rattle.model.specs.Periods.{listed}
 use Rattle.model.specs.State.{none, Line, Model, withLine}
@@ -29,7 +30,7 @@ use Rattle.counters.specs.Window.{inWindow}
 use Rattle.envelope.specs.Layout.{sealedEnvelope}
 use Rattle.envelope.specs.Opening.{opens, opened}
 use Rattle.protocol.specs.declared.Secrets.{Secrets}
-use Rattle.protocol.specs.Clients.{associates, lentKeys, dedicatedKeys}
+use Rattle.protocol.specs.Clients.{ciphering, counters as countersOf, associates, lentKeys, dedicatedKeys}
 use Rattle.protocol.specs.Decide.{accepted, advanced, secretsOf, answerTag, p2}
 
 -- what the call comes to
@@ -64,42 +65,42 @@ pub data Denial : List ℕ → Type 0 where
   read : (invoke code : ℕ) → Denial (getAnswer invoke (denied code))
   action : (invoke code : ℕ) → Denial (actionAnswer invoke (denied code))
 
--- a counter of H that is accepted
-abbrev pub Accepted : ℕ → Line → Type 0
-Accepted n l = inWindow (l .han .counters .accepted) n ≡ true
+-- a counter of the client that is accepted
+abbrev pub Accepted : CipherClient → ℕ → Line → Type 0
+Accepted c n l = inWindow (countersOf c l .accepted) n ≡ true
 
 -- and one that lies outside the window
-abbrev pub Outside : ℕ → Line → Type 0
-Outside n l = inWindow (l .han .counters .accepted) n ≡ false
+abbrev pub Outside : CipherClient → ℕ → Line → Type 0
+Outside c n l = inWindow (countersOf c l .accepted) n ≡ false
 
--- the APDU of a received frame is an envelope of H that opens, with this tag, counter and text: a proof under GUK, a request under
+-- the APDU of a received frame is an envelope of the client that opens, with this tag, counter and text: a proof under GUK, a request under
 -- the dedicated key
-pub data Opens (s : Secrets) (received : List ℕ) (l : Line) : (tag counter : ℕ) → (text : List ℕ) → Type 0 where
-  underGuk : {counter : ℕ} {text : List ℕ} → opened (lentKeys s) (l .han .peer .title) 0xCB (apduOf received) ≡ opens counter text
-      → Opens s received l 0xCB counter text
+pub data Opens (s : Secrets) (received : List ℕ) (l : Line) (c : CipherClient) : (tag counter : ℕ) → (text : List ℕ) → Type 0 where
+  underGuk : {counter : ℕ} {text : List ℕ} → opened (lentKeys s) (ciphering c l .peer .title) 0xCB (apduOf received) ≡ opens counter text
+      → Opens s received l c 0xCB counter text
   underKey : {tag counter : ℕ} {text : List ℕ} → Enclosed tag
-      → opened (dedicatedKeys (s .ak) l) (l .han .peer .title) tag (apduOf received) ≡ opens counter text
-      → Opens s received l tag counter text
+      → opened (dedicatedKeys (s .ak) c l) (ciphering c l .peer .title) tag (apduOf received) ≡ opens counter text
+      → Opens s received l c tag counter text
 
 -- that of the frame of a call
-abbrev pub Brings : Lent → Line → (tag counter : ℕ) → (text : List ℕ) → Type 0
-Brings a l tag n text = Opens (secretsOf a) (a .received) l tag n text
+abbrev pub Brings : Lent → Line → CipherClient → (tag counter : ℕ) → (text : List ℕ) → Type 0
+Brings a l c tag n text = Opens (secretsOf a) (a .received) l c tag n text
 
 -- what goes out around an answer to V's request, and around one to H's with this tag: in an envelope, of which the meter's
 -- counter plus one is the counter
 abbrev pub toV : Lent → List ℕ → List ℕ
 toV a text = apduFrame (headIn a) text
 
-abbrev pub toH : Lent → Line → (tag : ℕ) → List ℕ → List ℕ
-toH a l tag text =
-    apduFrame (headIn a) (sealedEnvelope (dedicatedKeys (a .ak) l) (l .title) (answerTag tag) (nextCounter (l .han .counters .sent)) text)
+abbrev pub toH : Lent → Line → CipherClient → (tag : ℕ) → List ℕ → List ℕ
+toH a l c tag text =
+    apduFrame (headIn a) (sealedEnvelope (dedicatedKeys (a .ak) c l) (l .title) (answerTag tag) (nextCounter (countersOf c l .sent)) text)
 
 pub data Row (a : Lent) (m : Model) : Outcome → Type 0 where
   -- 1 to 6: both cells are empty
   refuses : (n : ℕ) → listed n (1 ∷ 2 ∷ 3 ∷ 4 ∷ 5 ∷ 6 ∷ []) ≡ true → Row a m (refused n m)
   -- 7: "that association is dropped", by an envelope that opened and whose counter lies outside the window
-  drops : {tag n : ℕ} {asked : List ℕ} → SentBy Han a → Brings a (m .line) tag n asked → Outside n (m .line)
-      → Row a m (said 7 [] (associates Han none (m .line)) m)
+  drops : {c : CipherClient} {tag n : ℕ} {asked : List ℕ} → SentBy (Ciphering c) a → Brings a (m .line) c tag n asked → Outside c n (m .line)
+      → Row a m (said 7 [] (associates (Ciphering c) none (m .line)) m)
   -- 8: "FRMR, code 0100"
   overLength : Row a m (said 8 (replyFrame (headIn a) frmr (headIn a .control ∷ 0x00 ∷ 0x04 ∷ [])) (m .line) m)
   -- 9: "FRMR, code 0001"
@@ -110,27 +111,27 @@ pub data Row (a : Lent) (m : Model) : Outcome → Type 0 where
   notAccepted : (c : Client) → SentBy c a → Row a m (said 11 (apduFrame (headIn a) (rejectedAare c)) (m .line) m)
   -- 12: "exception"; "an opened envelope's counter becomes the last accepted"
   exception : (e : Exception) → Row a m (said 12 (apduFrame (headIn a) (exceptionBytes e)) (m .line) m)
-  exceptionInside : (e : Exception) {tag n : ℕ} {asked : List ℕ} → SentBy Han a → Brings a (m .line) tag n asked → Accepted n (m .line)
-      → Row a m (said 12 (apduFrame (headIn a) (exceptionBytes e)) (accepted n (m .line)) m)
+  exceptionInside : (e : Exception) {c : CipherClient} {tag n : ℕ} {asked : List ℕ} → SentBy (Ciphering c) a → Brings a (m .line) c tag n asked → Accepted c n (m .line)
+      → Row a m (said 12 (apduFrame (headIn a) (exceptionBytes e)) (accepted c n (m .line)) m)
   -- 13: "result code"; "for H, counters advance; a wrong proof ends the association"
   denial : {text : List ℕ} → SentBy Verification a → Denial text → Row a m (said 13 (toV a text) (m .line) m)
-  denialInside : {text asked : List ℕ} {tag n : ℕ} → SentBy Han a → Enclosed tag → Brings a (m .line) tag n asked → Accepted n (m .line) → Denial text
-      → Row a m (said 13 (toH a (m .line) tag text) (advanced (accepted n (m .line))) m)
-  wrongProof : (invoke : ℕ) {n : ℕ} {asked : List ℕ} → SentBy Han a → Brings a (m .line) 0xCB n asked → Accepted n (m .line)
+  denialInside : {c : CipherClient} {text asked : List ℕ} {tag n : ℕ} → SentBy (Ciphering c) a → Enclosed tag → Brings a (m .line) c tag n asked → Accepted c n (m .line) → Denial text
+      → Row a m (said 13 (toH a (m .line) c tag text) (advanced c (accepted c n (m .line))) m)
+  wrongProof : (invoke : ℕ) {c : CipherClient} {n : ℕ} {asked : List ℕ} → SentBy (Ciphering c) a → Brings a (m .line) c 0xCB n asked → Accepted c n (m .line)
       → Row a m (said 13
       (apduFrame (headIn a)
-      (sealedEnvelope (lentKeys (secretsOf a)) (m .line .title) 0xCF (nextCounter (m .line .han .counters .sent)) (actionAnswer invoke (denied 250))))
-      (advanced (accepted n (associates Han none (m .line)))) m)
+      (sealedEnvelope (lentKeys (secretsOf a)) (m .line .title) 0xCF (nextCounter (countersOf c (m .line) .sent)) (actionAnswer invoke (denied 250))))
+      (advanced c (accepted c n (associates (Ciphering c) none (m .line)))) m)
   -- "an accepted frame answers 0": UA or an APDU of the line, with the line afterwards; or the body's answer to a request
   links : (after : Line) → Row a m (said 0 (uaFrame (headIn a)) after m)
   tells : (bs : List ℕ) (after : Line) → Row a m (said 0 (apduFrame (headIn a) bs) after m)
   grants : (q : Request) → SentBy Verification a → q .client ≡ Verification
       → Row a m (record { refusal = 0; sent = toV a (turned q (m .body) .bytes); next = record { line = m .line; body = turned q (m .body) .body } })
-  grantsInside : {tag n : ℕ} {asked : List ℕ} (q : Request) → SentBy Han a → Enclosed tag → Brings a (m .line) tag n asked → Accepted n (m .line) → q .client ≡ Han
+  grantsInside : {c : CipherClient} {tag n : ℕ} {asked : List ℕ} (q : Request) → SentBy (Ciphering c) a → Enclosed tag → Brings a (m .line) c tag n asked → Accepted c n (m .line) → q .client ≡ Ciphering c
       → Row a m (record {
         refusal = 0;
-        sent = toH a (m .line) tag (turned q (m .body) .bytes);
-        next = record { line = advanced (accepted n (m .line)); body = turned q (m .body) .body };
+        sent = toH a (m .line) c tag (turned q (m .body) .bytes);
+        next = record { line = advanced c (accepted c n (m .line)); body = turned q (m .body) .body };
       })
 
 -- every frame call is one of the rows
@@ -160,13 +161,14 @@ Unchanged = (a : Lent) (m : Model) → listed (outcome a m .refusal) keeping ≡
 -- 7: "that association is dropped", and nothing else. The frame brought an envelope of H that opened, so that no forged frame
 -- drops an association, and its counter lay outside the window.
 pub record Dropping (a : Lent) (m after : Model) : Type 0 where
+  pub client : CipherClient
   pub tag : ℕ
   pub counter : ℕ
   pub text : List ℕ
-  pub sender : SentBy Han a
-  pub envelope : Brings a (m .line) tag counter text
-  pub outside : Outside counter (m .line)
-  pub drops : after ≡ withLine (associates Han none (m .line)) m
+  pub sender : SentBy (Ciphering client) a
+  pub envelope : Brings a (m .line) client tag counter text
+  pub outside : Outside client counter (m .line)
+  pub drops : after ≡ withLine (associates (Ciphering client) none (m .line)) m
 
 abbrev pub Dropped : Type 0
 Dropped = (a : Lent) (m : Model) → outcome a m .refusal ≡ 7 → Dropping a m (outcome a m .next)
@@ -174,8 +176,8 @@ Dropped = (a : Lent) (m : Model) → outcome a m .refusal ≡ 7 → Dropping a m
 -- 12: "an opened envelope's counter becomes the last accepted", and nothing else
 pub data Excepting (a : Lent) (m : Model) : Model → Type 0 where
   plain : Excepting a m m
-  inside : {tag n : ℕ} {text : List ℕ} → SentBy Han a → Brings a (m .line) tag n text → Accepted n (m .line)
-      → Excepting a m (withLine (accepted n (m .line)) m)
+  inside : {c : CipherClient} {tag n : ℕ} {text : List ℕ} → SentBy (Ciphering c) a → Brings a (m .line) c tag n text → Accepted c n (m .line)
+      → Excepting a m (withLine (accepted c n (m .line)) m)
 
 abbrev pub LastAccepted : Type 0
 LastAccepted = (a : Lent) (m : Model) → outcome a m .refusal ≡ 12 → Excepting a m (outcome a m .next)
@@ -190,15 +192,15 @@ PlainUnchanged =
 
 -- 13: "for H, counters advance; a wrong proof ends the association"; the last accepted is the counter of the envelope that
 -- opened, a request's or a proof's; the body is as it was
-pub data Advanced (a : Lent) (l : Line) : Line → Type 0 where
-  counters : {tag n : ℕ} {text : List ℕ} → Enclosed tag → Brings a l tag n text → Accepted n l → Advanced a l (advanced (accepted n l))
-  association : {n : ℕ} {text : List ℕ} → Brings a l 0xCB n text → Accepted n l → Advanced a l (advanced (accepted n (associates Han none l)))
+pub data Advanced (a : Lent) (l : Line) (c : CipherClient) : Line → Type 0 where
+  counters : {tag n : ℕ} {text : List ℕ} → Enclosed tag → Brings a l c tag n text → Accepted c n l → Advanced a l c (advanced c (accepted c n l))
+  association : {n : ℕ} {text : List ℕ} → Brings a l c 0xCB n text → Accepted c n l → Advanced a l c (advanced c (accepted c n (associates (Ciphering c) none l)))
 
 abbrev pub DeniedBody : Type 0
 DeniedBody = (a : Lent) (m : Model) → outcome a m .refusal ≡ 13 → outcome a m .next .body ≡ m .body
 
 abbrev pub DeniedLine : Type 0
-DeniedLine = (a : Lent) (m : Model) → SentBy Han a → outcome a m .refusal ≡ 13 → Advanced a (m .line) (outcome a m .next .line)
+DeniedLine = (a : Lent) (m : Model) (c : CipherClient) → SentBy (Ciphering c) a → outcome a m .refusal ≡ 13 → Advanced a (m .line) c (outcome a m .next .line)
 
 -- What goes out.
 

@@ -1,8 +1,9 @@
 -- What a frame on a sound meter comes to: the test of document 01 that it fails first, or none; what goes out; and the line
 -- afterwards. The number of a refusal follows from the test; what goes out stands beside the test in specs/Decide. Refusals 1 to 3
 -- are tested before, and a request that the body denies is refused by the model.
-use mathlib.Core.List.{List, []}
+use mathlib.Core.List.{List, [], _∷_, _++_}
 use Prim.Native.Nat.{ℕ}
+use Rattle.model.specs.declared.CipherClient.{CipherClient}
 use Rattle.model.specs.declared.Client.{Client}
 use Rattle.model.specs.State.{Line}
 use Rattle.model.specs.Objects.{Request}
@@ -13,6 +14,8 @@ use Rattle.hdlc.specs.Tests.{numberOf}
 use Rattle.cosem.specs.Tags.{exceptionBytes}
 use Rattle.cosem.specs.declared.Exception.the-variants.{ServiceUnknown}
 use Rattle.acse.specs.Aare.{rejectedAare}
+use Rattle.envelope.specs.Layout.{Keys, keysFrom, sealedEnvelope}
+use Rattle.envelope.specs.Challenge.{proofValue}
 use Rattle.envelope.specs.Opening.{openingRefusal, admissionRefusal}
 use Rattle.envelope.specs.declared.Opening.the-variants.{Fails}
 use Rattle.envelope.specs.declared.Admission.the-variants.{Unopened, OutsideWindow}
@@ -45,12 +48,44 @@ refusalOf malformedApdu = 12
 refusalOf notTheChallenge = 12
 refusalOf wrongProof = 13
 
+-- The envelopes that the meter makes: for which client, under which key and AK, from which title, with which tag and number,
+-- around which text.
+
+-- bytes; or the answer to a right proof: the meter's own, over this challenge, which takes a number itself
+pub data Text : Type 0 where
+  plain : List ℕ → Text
+  proof : (invoke number : ℕ) → (challenge : List ℕ) → Text
+
+pub record Envelope : Type 0 where
+  pub client : CipherClient
+  pub key : List ℕ
+  pub ak : List ℕ
+  pub title : List ℕ
+  pub tag : ℕ
+  pub number : ℕ
+  pub text : Text
+
+-- the answer to a right proof: the head of an ACTION's answer with data, and the meter's own proof
+unfoldable pub provedText : Keys → (title challenge : List ℕ) → (invoke number : ℕ) → List ℕ
+provedText k title challenge invoke number =
+    (0xC7 ∷ 0x01 ∷ invoke ∷ 0x00 ∷ 0x01 ∷ 0x00 ∷ []) ++ proofValue k title challenge number
+
+abbrev pub textBytes : Keys → (title : List ℕ) → Text → List ℕ
+textBytes k title (plain bs) = bs
+textBytes k title (proof invoke number challenge) = provedText k title challenge invoke number
+
+abbrev pub closed : Envelope → List ℕ
+closed e =
+    sealedEnvelope (keysFrom (e .key) (e .ak)) (e .title) (e .tag) (e .number) (textBytes (keysFrom (e .key) (e .ak)) (e .title) (e .text))
+
 -- what goes out
 pub data Reply : Type 0 where
   nothing : Reply
   ua dm : Head → Reply
   reject : Head → FrameTest → Reply
   apdu : Head → List ℕ → Reply
+  -- an envelope, after these bytes
+  encloses : Head → List ℕ → Envelope → Reply
 
 abbrev pub bytesOf : Reply → List ℕ
 bytesOf nothing = []
@@ -58,6 +93,7 @@ bytesOf (ua h) = uaFrame h
 bytesOf (dm h) = dmFrame h
 bytesOf (reject h t) = frmrFrame h t
 bytesOf (apdu h a) = apduFrame h a
+bytesOf (encloses h bs e) = apduFrame h (bs ++ closed e)
 
 -- a frame that the line answers, or one that asks the body, with the line after it
 pub data Ruling : Type 0 where

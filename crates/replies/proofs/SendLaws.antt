@@ -21,7 +21,7 @@ use Rattle.envelope.specs.Layout.{Keys, countedLength, headSize, sealedEnvelope
 use Rattle.envelope.specs.Challenge.{proofValue}
 use Rattle.envelope.proofs.CloseLaws.{encloses, envelope-size, length-envelope}
 use Rattle.envelope.proofs.ProofLaws.{length-proof}
-use Rattle.protocol.specs.Decide.{provedText}
+use Rattle.protocol.specs.Rulings.{provedText}
 
 -- Sizes.
 

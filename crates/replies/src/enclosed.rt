@@ -13,7 +13,7 @@ ghost use Rattle.hdlc.specs.Replies.{apduFrame, Sent};
 ghost use Rattle.acse.specs.Aare.{cipheredAareHead};
 ghost use Rattle.acse.specs.Initiate.{initiateResponse};
 ghost use Rattle.envelope.specs.Layout.{headSize, keysOf, sealedEnvelope};
-ghost use Rattle.protocol.specs.Decide.{provedText};
+ghost use Rattle.protocol.specs.Rulings.{provedText};
 ghost use Rattle.replies.specs.Room.{HasRoom};
 
 // How many bytes each text has that is not the caller's: an initiate response, an answer with a proof, one that denies.

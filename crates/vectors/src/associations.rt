@@ -1,6 +1,7 @@
 // The messages that open an association: read, and written.
 use acse::Aarq;
 use acse::InitiateRequest;
+use model::CipherClient;
 use model::Client;
 use text::bytes_8;
 use text::first;
@@ -107,7 +108,7 @@ fn rejected(s: &[u8]) {
 fn client(s: &[u8]) -> Client {
     let l = text::letter(text::field(s, 3));
     match l {
-        b'H' => Client::Han,
+        b'H' => Client::Ciphering(CipherClient::Han),
         _ => Client::Verification,
     }
 }

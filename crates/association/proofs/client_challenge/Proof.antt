@@ -1,20 +1,25 @@
 -- `association::client_challenge` meets its contract.
-use Rattle.line.specs.View.{lineOf}
+use mathlib.Core.Path.{ap}
+use Rattle.protocol.specs.Clients.{clientChallenge}
+use Rattle.association.proofs.PartyLaws.{held-of}
 use borrow.Author.Needs.{needs}
 use Rattle.association.proofs.client_challenge.Statement.{statement}
 use Rattle.association.proofs.client_challenge.Tie as tie
 
 returns : tie.Need-returns
-unfolding lineOf
-returns c = rw (c .enum-told .given .1)
+returns c =
+    let k = c .before .before .before in
+    ap clientChallenge (held-of (k .before .args .client) (k .before .args .line) _ _ (k .cipher-of .ensures) (c .enum-told .given .1))
 
 returns-2 : tie.Need-returns-2
-unfolding lineOf
-returns-2 c = rw (c .before .enum-told2 .given .1)
+returns-2 c =
+    let k = c .before .before .before .before in
+    ap clientChallenge (held-of (k .before .args .client) (k .before .args .line) _ _ (k .cipher-of .ensures) (c .before .enum-told2 .given .1))
 
 returns-3 : tie.Need-returns-3
-unfolding lineOf
-returns-3 c = rw (c .enum-told3 .given .1)
+returns-3 c =
+    let k = c .before .before .before in
+    ap clientChallenge (held-of (k .before .args .client) (k .before .args .line) _ _ (k .cipher-of .ensures) (c .enum-told3 .given .1))
 
 pub client-challenge-spec : {M : Type 1} → statement M
-client-challenge-spec = tie.close (tie.spec (λ c. search needs) (λ c. search needs) (λ c. search needs) returns returns-2 returns-3)
+client-challenge-spec = tie.close (tie.spec (λ c κs. search needs) (λ c. search needs) (λ c. search needs) (λ c. search needs) returns returns-2 returns-3)

@@ -1,13 +1,17 @@
 -- `association::change::associated_ciphered` meets its contract.
-use mathlib.Core.Path.{refl}
-use Rattle.line.specs.View.{lineOf}
+use Rattle.association.proofs.PartyLaws.{answered-line}
 use borrow.Author.Needs.{needs}
 use Rattle.association.proofs.change.associated_ciphered.Statement.{statement}
 use Rattle.association.proofs.change.associated_ciphered.Tie as tie
 
 returns : tie.Need-returns
-unfolding lineOf
-returns c = rw (c .with-han .ensures, c .before .key-in .ensures, c .before .before .in-phase .ensures, c .before .before .before .agreed-in .ensures) (record { view = refl; wiped = record { client = refl; meter = refl } })
+returns c =
+    let at-key-in = c .before in
+    let at-in-phase = at-key-in .before in
+    let at-agreed-in = at-in-phase .before in
+    let at-cipher-of = at-agreed-in .before .before in
+    let a = at-cipher-of .before .args in
+    answered-line (a .client) (a .counters) (a .line) _ _ _ _ _ (at-cipher-of .cipher-of .ensures) (at-agreed-in .agreed-in .ensures) (at-in-phase .in-phase .ensures) (at-key-in .key-in .ensures) (c .with-cipher .ensures)
 
 pub associated-ciphered-spec : {M : Type 1} → statement M
-associated-ciphered-spec = tie.close (tie.spec (λ c κs. search needs) (λ c κs. search needs) (λ c κs. search needs) (λ c κs. search needs) returns)
+associated-ciphered-spec = tie.close (tie.spec (λ c κs. search needs) (λ c κs. search needs) (λ c κs. search needs) (λ c κs. search needs) (λ c κs. search needs) returns)

@@ -1,12 +1,15 @@
 -- `association::change::pending` meets its contract.
-use Rattle.line.specs.View.{lineOf}
+use Rattle.association.proofs.PartyLaws.{pending-line}
 use borrow.Author.Needs.{needs}
 use Rattle.association.proofs.change.pending.Statement.{statement}
 use Rattle.association.proofs.change.pending.Tie as tie
 
 returns : tie.Need-returns
-unfolding lineOf
-returns c = rw (c .with-han .ensures, c .before .in-phase .ensures)
+returns c =
+    let at-in-phase = c .before in
+    let at-cipher-of = at-in-phase .before .before in
+    let a = at-cipher-of .before .args in
+    pending-line (a .client) (a .counters) (a .line) _ _ _ (a .agreed) (a .key) (a .theirs) (a .ours) (at-cipher-of .cipher-of .ensures) (at-in-phase .in-phase .ensures) (c .with-cipher .ensures)
 
 pub pending-spec : {M : Type 1} → statement M
-pending-spec = tie.close (tie.spec (λ c κs. search needs) (λ c κs. search needs) returns)
+pending-spec = tie.close (tie.spec (λ c κs. search needs) (λ c κs. search needs) (λ c κs. search needs) returns)

@@ -8,4 +8,4 @@ find-spec =
     tie.close
     (tie.spec (λ c. search needs) (λ c κs. search needs) (λ c. search needs) (λ c κs. search needs)
     (λ c. rw (c .before .enum-told .given .1) (c .find-device .ensures))
-    (λ c. rw (c .before .enum-told2 .given .1) (c .find-own .ensures)))
+    (λ c. rw (c .before .before .client .given .1) (c .find-ciphering .ensures)))

@@ -1,5 +1,5 @@
 -- `p2::ask::answer_enclosed` meets its contract.
-use mathlib.Core.Path.{_≡_, refl, sym, ap, _∙_}
+use mathlib.Core.Path.{_≡_, sym, ap, _∙_}
 use native.Mathlib.Omega.{arith}
 use Rattle.model.proofs.LimitFacts.{reply-room, text-room}
 use Rattle.model.proofs.ListLaws.{both}
@@ -9,7 +9,11 @@ use Rattle.counters.specs.Window.{accepting}
 use Rattle.line.specs.View.{lineOf, lineSound}
 use Rattle.body.specs.View.{bodyOf, bodySound}
 use Rattle.meter.proofs.MeterLaws.{sound-is}
-use Rattle.protocol.specs.Clients.{withCounters}
+use Rattle.model.specs.declared.Counters.{Counters}
+use Rattle.model.specs.State.{Association}
+use Rattle.envelope.specs.Layout.{keysFrom}
+use Rattle.protocol.specs.Clients.{counters, keyIn, withCounters}
+use Rattle.protocol.proofs.LineLaws.{advanced-is, counted-counters, counted-held, counted-title}
 use Rattle.p2.proofs.Endings.{answer-short, counted-same, enclosed-sent, serves}
 use borrow.Author.Needs.{needs}
 use Rattle.p2.proofs.ask.answer_enclosed.Statement.{statement}
@@ -26,7 +30,7 @@ answer-requires c κs =
 add-send-enclosed : tie.Need-add-send-enclosed
 add-send-enclosed c =
     let s = c .before .before .before .before .before .before .before .before .before .before .before .before .before .before .before .before in
-    omega (arith, s .pre .2)
+    omega (arith, s .pre .1)
 
 send-enclosed-requires : tie.Need-send-enclosed-requires
 send-enclosed-requires c κs =
@@ -43,22 +47,31 @@ returns c lent e =
     let at-with-counters = at-is-selective .before in
     let at-take = at-with-counters .before in
     let at-accept = at-take .before in
-    let s = at-accept .before .before .before .before .before .before in
+    let at-counters-of = at-accept .before in
+    let s = at-counters-of .before .before .before .before .before in
     let t = at-answer .answer .ensures in
     let a = s .args in
     let l = lineOf (a .meter .line) in
-    let pair = accepting (a .meter .line .han .counters) (a .counter) in
-    let number : at-take .take .result ≡ taken pair = at-take .take .ensures ∙ ap taken (at-accept .accept .ensures) in
-    let next = at-with-counters .with-counters .ensures ∙ ap (λ (n : Taken). withCounters (n .counters) l) number in
-    rw (sym (at-is-selective .is-selective .ensures))
+    let k = a .client in
+    let held = counters k l in
+    let pair = accepting held (a .counter) in
+    let accepts = at-accept .accept .ensures ∙ ap (λ (n : Counters). accepting n (a .counter)) (at-counters-of .counters-of .ensures) in
+    let number : at-take .take .result ≡ taken pair = at-take .take .ensures ∙ ap taken accepts in
+    let after = withCounters k (taken pair .counters) l in
+    let next = at-with-counters .with-counters .ensures ∙ ap (λ (n : Taken). withCounters k (n .counters) l) number in
+    let keys = e ∙ ap (λ (x : Association). keysFrom (keyIn x) (lent .ak)) (sym (counted-held k (taken pair .counters) l)) in
+    let title = sym (counted-title k (taken pair .counters) l) in
+    let sent = ap (λ (n : Taken). n .number) number ∙ ap (λ (n : Counters). n .sent) (sym (counted-counters k (taken pair .counters) l)) in
+    rw (sym (at-is-selective .is-selective .ensures), advanced-is k (a .counter) l)
     (serves _ _ (a .meter) _ _ next (t .refusal) (t .body)
-    (enclosed-sent _ _ 20 t (lent .ak) _ (a .head) (a .tag) _ _ _ (omega arith) (s .pre .1) e refl (ap (λ (n : Taken). n .number) number) (at-send-enclosed .send-enclosed .ensures))
-    (counted-same (taken pair .counters) l))
+    (enclosed-sent _ _ 20 t k (lent .ak) _ (a .head) (a .tag) _ _ after (omega arith) keys title sent (at-send-enclosed .send-enclosed .ensures))
+    (counted-same k (taken pair .counters) l))
 
 pub answer-enclosed-spec : {M : Type 1} → statement M
 answer-enclosed-spec =
     tie.close
     (tie.spec
+    (λ c κs. search needs)
     (λ c κs. search needs)
     (λ c κs. search needs)
     (λ c κs. search needs)

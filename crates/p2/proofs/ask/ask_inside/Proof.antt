@@ -1,5 +1,6 @@
 -- `p2::ask::ask_inside` meets its contract.
 use mathlib.Core.Path.{refl, sym, _∙_}
+use Rattle.line.specs.View.{lineOf}
 use Rattle.protocol.specs.Rulings.{malformedApdu}
 use Rattle.p2.proofs.Endings.{accepted-same}
 use borrow.Author.Needs.{needs}
@@ -22,7 +23,7 @@ returns-2 c a e =
     let s = at-read-inside .before .before .before in
     let next = at-accept-counter .accept-counter .ensures in
     rw (c .joined .ensures, sym (at-read-inside .read-inside .ensures) ∙ at-enum-told .enum-told .given .1, sym next)
-    (at-except .except .ensures (s .args .meter .line) malformedApdu refl (λ d. accepted-same _ _ next d) (s .args .meter .body))
+    (at-except .except .ensures (s .args .meter .line) malformedApdu refl (λ d. accepted-same (s .args .client) (s .args .counter) (lineOf (s .args .meter .line)) next d) (s .args .meter .body))
 
 pub ask-inside-spec : {M : Type 1} → statement M
 ask-inside-spec =

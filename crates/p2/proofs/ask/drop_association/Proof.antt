@@ -4,7 +4,7 @@ use Rattle.protocol.specs.Rulings.{nothing, outsideWindow}
 use Rattle.p2.proofs.Endings.{nothing-sent, says-line, ends-one}
 use Rattle.line.specs.View.{lineOf}
 use Rattle.protocol.specs.Clients.{withAssociation, peer}
-use Rattle.model.specs.declared.Client.the-variants.{Han}
+use Rattle.model.specs.declared.Client.the-variants.{Ciphering}
 use Rattle.model.specs.State.{none as noAssociation}
 use borrow.Author.Needs.{needs}
 use Rattle.p2.specs.Inner.{meterWith}
@@ -16,7 +16,7 @@ returns c l b =
     let s = c .before in
     let before = lineOf (s .args .line) in
     says-line outsideWindow nothing (meterWith (s .args .line) b) refl (nothing-sent l) _ (c .ended .ensures .view) refl
-    (ends-one (c .ended .result) Han (withAssociation noAssociation (peer Han before)) before (c .ended .ensures .wiped))
+    (ends-one (c .ended .result) (Ciphering (s .args .client)) (withAssociation noAssociation (peer (Ciphering (s .args .client)) before)) before (c .ended .ensures .wiped))
 
 pub drop-association-spec : {M : Type 1} → statement M
 drop-association-spec =

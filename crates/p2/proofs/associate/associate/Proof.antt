@@ -10,8 +10,8 @@ use borrow.Author.Needs.{needs}
 use Rattle.p2.proofs.associate.associate.Statement.{statement}
 use Rattle.p2.proofs.associate.associate.Tie as tie
 
-sub-open-request : tie.Need-sub-open-request
-sub-open-request c =
+sub-open-from : tie.Need-sub-open-from
+sub-open-from c =
     let at-aarq2 = c .before .before in
     let at-read-aarq = at-aarq2 .before .before in
     let at-title-of = at-read-aarq .before .before in
@@ -21,8 +21,8 @@ sub-open-request c =
     let k = ciphered-told apdu _ _ (ap length (at-title-of .title-of .ensures) ∙ title-long (s .args .line) _ (s .good .0) (s .args .client)) q in
     omega (arith, k .envelopePlace, k .long)
 
-part-open-request-start : tie.Need-part-open-request-start
-part-open-request-start c =
+part-open-from-start : tie.Need-part-open-from-start
+part-open-from-start c =
     let at-aarq2 = c .before .before in
     let at-read-aarq = at-aarq2 .before .before in
     let at-title-of = at-read-aarq .before .before in
@@ -34,8 +34,8 @@ part-open-request-start c =
 
 returns : tie.Need-returns
 returns c b =
-    let at-accept-plain = c .before .before in
-    let at-three-at = at-accept-plain .before .before in
+    let at-accept-from = c .before .before in
+    let at-three-at = at-accept-from .before .before in
     let at-aarq = at-three-at .before .before in
     let at-read-aarq = at-aarq .before .before in
     let at-title-of = at-read-aarq .before .before in
@@ -44,12 +44,12 @@ returns c b =
     let q = sym (at-read-aarq .read-aarq .ensures) ∙ at-aarq .aarq .given .1 in
     let k = plain-told apdu _ _ (ap length (at-title-of .title-of .ensures) ∙ title-long (s .args .line) _ (s .good .0) (s .args .client)) q in
     rw (sym (at-title-of .title-of .ensures), q, sym (at-three-at .three-at .ensures ∙ fill-here apdu _ (replicate 3 0) (omega (arith, k .place, k .long))))
-    (at-accept-plain .accept-plain .ensures b)
+    (at-accept-from .accept-from .ensures b)
 
 returns-2 : tie.Need-returns-2
 returns-2 c b =
-    let at-open-request = c .before .before in
-    let at-eight-at = at-open-request .before .before .before in
+    let at-open-from = c .before .before in
+    let at-eight-at = at-open-from .before .before .before in
     let at-aarq2 = at-eight-at .before .before in
     let at-read-aarq = at-aarq2 .before .before in
     let at-title-of = at-read-aarq .before .before in
@@ -58,7 +58,7 @@ returns-2 c b =
     let q = sym (at-read-aarq .read-aarq .ensures) ∙ at-aarq2 .aarq2 .given .1 in
     let k = ciphered-told apdu _ _ (ap length (at-title-of .title-of .ensures) ∙ title-long (s .args .line) _ (s .good .0) (s .args .client)) q in
     rw (sym (at-title-of .title-of .ensures), q, sym (at-eight-at .eight-at .ensures ∙ fill-here apdu _ (replicate 8 0) (omega (arith, k .challengePlace, k .long))))
-    (rw (to-end apdu _) at (at-open-request .open-request .ensures b))
+    (rw (to-end apdu _) at (at-open-from .open-from .ensures b))
 
 returns-3 : tie.Need-returns-3
 returns-3 c b =
@@ -79,8 +79,8 @@ associate-spec =
     (λ c κs. search needs)
     (λ c. search needs)
     (λ c κs. search needs)
-    sub-open-request
-    part-open-request-start
+    sub-open-from
+    part-open-from-start
     (λ c. search needs)
     (λ c κs. search needs)
     (λ c. search needs)

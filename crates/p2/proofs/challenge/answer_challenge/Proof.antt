@@ -1,5 +1,6 @@
 -- `p2::challenge::answer_challenge` meets its contract.
 use mathlib.Core.Path.{refl, sym, _∙_}
+use Rattle.line.specs.View.{lineOf}
 use Rattle.protocol.specs.Rulings.{malformedApdu}
 use Rattle.p2.proofs.Endings.{accepted-same}
 use borrow.Author.Needs.{needs}
@@ -22,7 +23,7 @@ returns-2 c a e b =
     let s = at-read-action .before .before .before in
     let next = at-accept-counter .accept-counter .ensures in
     rw (sym (at-read-action .read-action .ensures) ∙ at-enum-told .enum-told .given .1, sym next)
-    (at-except .except .ensures (s .args .line) malformedApdu refl (λ d. accepted-same _ _ next d) b)
+    (at-except .except .ensures (s .args .line) malformedApdu refl (λ d. accepted-same (s .args .client) (s .args .counter) (lineOf (s .args .line)) next d) b)
 
 pub answer-challenge-spec : {M : Type 1} → statement M
 answer-challenge-spec =

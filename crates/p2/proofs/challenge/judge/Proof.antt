@@ -20,7 +20,7 @@ returns c a e b =
     let s = at-is-challenge .before .before .before in
     let next = at-accept-counter .accept-counter .ensures in
     rw (sym (at-is-challenge .is-challenge .ensures) ∙ not-true _ (at-if1 .if1 .taken), sym next)
-    (at-except .except .ensures (s .args .line) notTheChallenge refl (λ d. accepted-same _ _ next d) b)
+    (at-except .except .ensures (s .args .line) notTheChallenge refl (λ d. accepted-same (s .args .client) (s .args .counter) (lineOf (s .args .line)) next d) b)
 
 returns-2 : tie.Need-returns-2
 unfolding challenged
@@ -31,7 +31,7 @@ returns-2 c a e b =
     let at-if1 = at-proves-itself .before in
     let at-is-challenge = at-if1 .before in
     let s = at-is-challenge .before .before .before in
-    rw (sym (at-is-challenge .is-challenge .ensures) ∙ not-false _ (at-if1 .if1 .left), proves-under (lineOf (s .args .line)) a (s .args .counter) (s .args .text .now) (s .args .request) e (at-proves-itself .proves-itself .ensures) ∙ at-if2 .if2 .taken)
+    rw (sym (at-is-challenge .is-challenge .ensures) ∙ not-false _ (at-if1 .if1 .left), proves-under (s .args .client) (lineOf (s .args .line)) a (s .args .counter) (s .args .text .now) (s .args .request) e (at-proves-itself .proves-itself .ensures) ∙ at-if2 .if2 .taken)
     (at-prove .prove .ensures a e b)
 
 returns-3 : tie.Need-returns-3
@@ -43,7 +43,7 @@ returns-3 c a e b =
     let at-if1 = at-proves-itself .before in
     let at-is-challenge = at-if1 .before in
     let s = at-is-challenge .before .before .before in
-    rw (sym (at-is-challenge .is-challenge .ensures) ∙ not-false _ (at-if1 .if1 .left), proves-under (lineOf (s .args .line)) a (s .args .counter) (s .args .text .now) (s .args .request) e (at-proves-itself .proves-itself .ensures) ∙ at-if2 .if2 .left)
+    rw (sym (at-is-challenge .is-challenge .ensures) ∙ not-false _ (at-if1 .if1 .left), proves-under (s .args .client) (lineOf (s .args .line)) a (s .args .counter) (s .args .text .now) (s .args .request) e (at-proves-itself .proves-itself .ensures) ∙ at-if2 .if2 .left)
     (at-disprove .disprove .ensures a e b)
 
 pub judge-spec : {M : Type 1} → statement M

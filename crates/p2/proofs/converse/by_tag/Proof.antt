@@ -11,13 +11,13 @@ use Rattle.p2.proofs.Requests.{request-bounds, request-ruled}
 use Rattle.p2.proofs.converse.by_tag.Statement.{statement}
 use Rattle.p2.proofs.converse.by_tag.Tie as tie
 
-ask-enclosed-requires : tie.Need-ask-enclosed-requires
-ask-enclosed-requires c κs =
+ask-ciphered-requires : tie.Need-ask-ciphered-requires
+ask-ciphered-requires c κs =
     let at-request-byte = c .before in
     let at-match = at-request-byte .before in
     let s = at-match .before .before .before .before in
     let b = request-bounds (s .args .tag) (at-match .match .keys5) in
-    let e = at-request-byte .request-byte .ensures in (s .pre, rw e (b .0), rw e (b .1))
+    let e = at-request-byte .request-byte .ensures in (s .pre, rw e b)
 
 returns : tie.Need-returns
 returns c =
@@ -42,20 +42,20 @@ returns-3 c =
 
 returns-4 : tie.Need-returns-4
 returns-4 c =
-    let at-hear-challenge = c .before .before .before in
-    let at-enum-told4 = at-hear-challenge .before .before in
+    let at-hear-ciphered = c .before .before .before in
+    let at-enum-told4 = at-hear-ciphered .before .before in
     let s = at-enum-told4 .before .before .before .before .before in
-    rw (c .joined3 .ensures, at-enum-told4 .enum-told4 .given .1) (at-hear-challenge .hear-challenge .ensures (s .args .meter .body))
+    rw (c .joined3 .ensures, at-enum-told4 .enum-told4 .given .1) (at-hear-ciphered .hear-ciphered .ensures (s .args .meter .body))
 
 returns-5 : tie.Need-returns-5
 returns-5 c =
-    let at-ask-enclosed = c .before .before in
-    let at-request-byte = at-ask-enclosed .before .before in
+    let at-ask-ciphered = c .before .before in
+    let at-request-byte = at-ask-ciphered .before .before in
     let at-match = at-request-byte .before in
     let s = at-match .before .before .before .before in
     let a = s .args in
     rw (request-ruled (lineOf (a .meter .line)) (a .secrets) (a .client) (a .head) (a .apdu .now) (a .tag) (at-match .match .keys5), sym (at-request-byte .request-byte .ensures))
-    (at-ask-enclosed .ask-enclosed .ensures)
+    (at-ask-ciphered .ask-ciphered .ensures)
 
 returns-6 : tie.Need-returns-6
 returns-6 c =
@@ -101,7 +101,7 @@ by-tag-spec =
     (λ c κs. search needs)
     (λ c κs. search needs)
     (λ c κs. search needs)
-    ask-enclosed-requires
+    ask-ciphered-requires
     (λ c. search needs)
     (λ c κs. search needs)
     (λ c κs. search needs)

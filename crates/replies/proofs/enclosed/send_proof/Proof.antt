@@ -5,7 +5,7 @@ use Prim.Native.Nat.{ℕ, _+_}
 use borrow.Author.Needs.{needs}
 use Rattle.model.proofs.LimitFacts.{reply-room, text-room}
 use Rattle.wire.proofs.WroteLaws.{then}
-use Rattle.protocol.specs.Decide.{provedText}
+use Rattle.protocol.specs.Rulings.{provedText}
 use Rattle.envelope.specs.Layout.{keysOf}
 use Rattle.replies.proofs.SendLaws.{enclosed, head-limits, length-proved}
 use Rattle.replies.proofs.enclosed.send_proof.Statement.{statement}
