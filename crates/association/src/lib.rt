@@ -8,6 +8,7 @@ pub use change::ended;
 pub use change::pending;
 pub use change::with_counters;
 pub use change::with_link;
+use cosem::ServiceKind;
 use cosem::Tag;
 use envelope::ReadyKeys;
 use line::CipherParty;
@@ -24,7 +25,7 @@ ghost use Prim.Native.Nat.{ℕ};
 ghost use Rattle.model.specs.State.{none, «pending» as pendingWith, associated};
 ghost use Rattle.envelope.specs.Layout.{keysOf};
 ghost use Rattle.line.specs.View.{cipherOf, cipheringOf, lineOf};
-ghost use Rattle.protocol.specs.Clients.{agreedIn, bitAgreed, clientChallenge, counters, dedicatedKeys, held, isUnknown, keyIn, lentKeys, meterChallenge, peer, permitted, selectiveIn};
+ghost use Rattle.protocol.specs.Clients.{agreedIn, bitAgreed, clientChallenge, counters, dedicatedKeys, held, isUnknown, keyIn, lentKeys, mayAskEnclosed, mayAskPlain, meterChallenge, peer, permitted, selectiveIn, serviceAgreed};
 ghost use Rattle.protocol.specs.Decide.{heldByP5};
 ghost use Rattle.association.specs.Parties.{partyOf};
 
@@ -61,13 +62,9 @@ pub fn is_unknown(tag: Tag) -> bool
     match tag {
         Tag::Aarq => false,
         Tag::Rlrq => false,
-        Tag::GetRequest => false,
-        Tag::SetRequest => false,
-        Tag::ActionRequest => false,
-        Tag::GloActionRequest => false,
-        Tag::DedGetRequest => false,
-        Tag::DedSetRequest => false,
-        Tag::DedActionRequest => false,
+        Tag::PlainRequest(_) => false,
+        Tag::GlobalAction => false,
+        Tag::DedicatedRequest(_) => false,
         Tag::Unknown => true,
     }
 }
@@ -92,13 +89,9 @@ fn permitted_idle(client: Client, tag: Tag) -> bool
     match tag {
         Tag::Aarq => true,
         Tag::Rlrq => false,
-        Tag::GetRequest => false,
-        Tag::SetRequest => false,
-        Tag::ActionRequest => false,
-        Tag::GloActionRequest => false,
-        Tag::DedGetRequest => false,
-        Tag::DedSetRequest => false,
-        Tag::DedActionRequest => false,
+        Tag::PlainRequest(_) => false,
+        Tag::GlobalAction => false,
+        Tag::DedicatedRequest(_) => false,
         Tag::Unknown => false,
     }
 }
@@ -110,32 +103,46 @@ fn permitted_pending(client: Client, tag: Tag) -> bool
     match tag {
         Tag::Aarq => false,
         Tag::Rlrq => true,
-        Tag::GetRequest => false,
-        Tag::SetRequest => false,
-        Tag::ActionRequest => false,
-        Tag::GloActionRequest => acse::ciphers(client),
-        Tag::DedGetRequest => false,
-        Tag::DedSetRequest => false,
-        Tag::DedActionRequest => false,
+        Tag::PlainRequest(_) => false,
+        Tag::GlobalAction => acse::ciphers(client),
+        Tag::DedicatedRequest(_) => false,
         Tag::Unknown => false,
     }
 }
 
-// When associated the requests: plain, or ciphered from a client that ciphers; and the release.
+// When associated the requests; and the release.
 fn permitted_associated(client: Client, tag: Tag) -> bool
     ensures { λ r. ⌜ ((a k : List ℕ) → r ≡ permitted client (associated a k) tag) ⌝ }
 {
     match tag {
         Tag::Aarq => false,
         Tag::Rlrq => true,
-        Tag::GetRequest => !acse::ciphers(client),
-        Tag::SetRequest => false,
-        Tag::ActionRequest => false,
-        Tag::GloActionRequest => false,
-        Tag::DedGetRequest => acse::ciphers(client),
-        Tag::DedSetRequest => false,
-        Tag::DedActionRequest => acse::ciphers(client),
+        Tag::PlainRequest(kind) => may_ask_plain(client, kind),
+        Tag::GlobalAction => false,
+        Tag::DedicatedRequest(kind) => may_ask_enclosed(client, kind),
         Tag::Unknown => false,
+    }
+}
+
+// Of a client that does not cipher, GET.
+fn may_ask_plain(client: Client, kind: ServiceKind) -> bool
+    ensures { λ r. ⌜ r ≡ mayAskPlain client kind ⌝ }
+{
+    match kind {
+        ServiceKind::Get => !acse::ciphers(client),
+        ServiceKind::Set => false,
+        ServiceKind::Action => false,
+    }
+}
+
+// Of one that does, GET and ACTION.
+fn may_ask_enclosed(client: Client, kind: ServiceKind) -> bool
+    ensures { λ r. ⌜ r ≡ mayAskEnclosed client kind ⌝ }
+{
+    match kind {
+        ServiceKind::Get => acse::ciphers(client),
+        ServiceKind::Set => false,
+        ServiceKind::Action => acse::ciphers(client),
     }
 }
 
@@ -144,24 +151,24 @@ pub fn is_bit_agreed(line: LineState, client: Client, tag: Tag) -> bool
     ensures { λ r. ⌜ r ≡ bitAgreed (agreedIn (peer client (lineOf line) .association)) tag ⌝ }
 {
     let agreed = agreed_in(line, client);
-    is_agreed(agreed, tag)
-}
-
-// Whether the service that the tag needs is among these.
-fn is_agreed(agreed: [u8; 3], tag: Tag) -> bool
-    ensures { λ r. ⌜ r ≡ bitAgreed agreed tag ⌝ }
-{
     match tag {
         Tag::Aarq => true,
         Tag::Rlrq => true,
-        Tag::GetRequest => line::is_within([0x00, 0x00, 0x10], agreed),
-        Tag::SetRequest => true,
-        Tag::ActionRequest => true,
-        Tag::GloActionRequest => true,
-        Tag::DedGetRequest => line::is_within([0x00, 0x00, 0x10], agreed),
-        Tag::DedSetRequest => true,
-        Tag::DedActionRequest => line::is_within([0x00, 0x00, 0x01], agreed),
+        Tag::PlainRequest(kind) => is_agreed(agreed, kind),
+        Tag::GlobalAction => true,
+        Tag::DedicatedRequest(kind) => is_agreed(agreed, kind),
         Tag::Unknown => true,
+    }
+}
+
+// Whether the service is among these.
+fn is_agreed(agreed: [u8; 3], kind: ServiceKind) -> bool
+    ensures { λ r. ⌜ r ≡ serviceAgreed agreed kind ⌝ }
+{
+    match kind {
+        ServiceKind::Get => line::is_within([0x00, 0x00, 0x10], agreed),
+        ServiceKind::Set => true,
+        ServiceKind::Action => line::is_within([0x00, 0x00, 0x01], agreed),
     }
 }
 

@@ -19,6 +19,8 @@ use Rattle.axdr.specs.Values.{valueEnd}
 use Rattle.model.specs.declared.Client.{Client}
 use Rattle.model.specs.declared.Name.{Name}
 use Rattle.model.specs.Objects.{Request, Service, get, action, all, selected, absent, present}
+use Rattle.cosem.specs.declared.ServiceKind.{ServiceKind}
+use Rattle.cosem.specs.declared.ServiceKind.the-variants.{Get, Set, Action}
 use Rattle.cosem.specs.declared.Part.{Part}
 use Rattle.cosem.specs.declared.Part.the-variants.{Absent, Present, Wrong}
 use Rattle.cosem.specs.declared.Wanted.{Wanted}
@@ -80,6 +82,12 @@ actionWith s Wrong = Malformed
 
 unfoldable pub readAction : List ℕ → Reading
 readAction s = actionWith s (optionalPart actionNormal s)
+
+-- a request of this service. Nothing here is a SET: no client may send one
+abbrev pub readService : ServiceKind → List ℕ → Reading
+readService Get s = readGet s
+readService Set s = Malformed
+readService Action s = readAction s
 
 -- The model's request.
 

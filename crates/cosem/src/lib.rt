@@ -7,26 +7,33 @@ mod tags;
 pub use request::name_in;
 pub use request::read_action;
 pub use request::read_get;
+pub use request::read_service;
 pub use shapes::entries_at;
 pub use shapes::is_integer_at;
 pub use shapes::rest_of;
+pub use tags::answer_tag;
+pub use tags::dedicated_tag;
 pub use tags::is_release;
 pub use tags::put_exception;
 pub use tags::put_release;
 pub use tags::tag_in;
 pub use tags::tag_of;
 
-// The tags of the APDUs that a client may send.
+// The services of the requests that have a tag.
+pub enum ServiceKind {
+    Get,
+    Set,
+    Action,
+}
+
+// The tags of the APDUs that a client may send. A request goes plain, or in an envelope under the dedicated key; an ACTION in one
+// under the client's GUK.
 pub enum Tag {
     Aarq,
     Rlrq,
-    GetRequest,
-    SetRequest,
-    ActionRequest,
-    GloActionRequest,
-    DedGetRequest,
-    DedSetRequest,
-    DedActionRequest,
+    PlainRequest(ServiceKind),
+    GlobalAction,
+    DedicatedRequest(ServiceKind),
     Unknown,
 }
 

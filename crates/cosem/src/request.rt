@@ -3,13 +3,14 @@
 use crate::Asked;
 use crate::Part;
 use crate::Reading;
+use crate::ServiceKind;
 use crate::Wanted;
 use model::Name;
 use wire::End;
 use wire::Field;
 ghost use mathlib.Core.Path.{_≡_};
 ghost use Prim.Native.Nat.{_<_};
-ghost use Rattle.cosem.specs.Requests.{asking, askingWith, byte, lastValue, nameIn, optionalPart, readAction, readGet};
+ghost use Rattle.cosem.specs.Requests.{asking, askingWith, byte, lastValue, nameIn, optionalPart, readAction, readGet, readService};
 
 // A GET request.
 pub fn read_get(apdu: &[u8]) -> Reading
@@ -45,6 +46,17 @@ pub fn read_action(apdu: &[u8]) -> Reading
         Part::Absent => asks(apdu, Wanted::Invoke { method }),
         Part::Present => asks_with(apdu, 13, Wanted::InvokeWith { method, at: 13 }),
         Part::Wrong => Reading::Malformed,
+    }
+}
+
+// A request of this service.
+pub fn read_service(kind: ServiceKind, apdu: &[u8]) -> Reading
+    ensures { λ r. ⌜ r ≡ readService kind (now (apdu .entry)) ⌝ }
+{
+    match kind {
+        ServiceKind::Get => read_get(apdu),
+        ServiceKind::Set => Reading::Malformed,
+        ServiceKind::Action => read_action(apdu),
     }
 }
 

@@ -1,12 +1,13 @@
 // Tags, release and exceptions. A writer requires room for its bytes and nothing else.
 use crate::Exception;
+use crate::ServiceKind;
 use crate::Tag;
 use wire::Field;
 ghost use mathlib.Core.Path.{_≡_};
 ghost use Prim.Native.Nat.{_+_, _≤_};
 ghost use lib.ListN.{length};
 ghost use Rattle.wire.specs.Wrote.{Wrote};
-ghost use Rattle.cosem.specs.Tags.{exceptionBytes, isRelease, releaseResponse, tagIn, tagOf};
+ghost use Rattle.cosem.specs.Tags.{answerTag, dedicatedTag, exceptionBytes, isRelease, releaseResponse, tagIn, tagOf};
 
 // The tag that a byte is.
 pub fn tag_of(first: u8) -> Tag
@@ -15,13 +16,13 @@ pub fn tag_of(first: u8) -> Tag
     match first {
         0x60 => Tag::Aarq,
         0x62 => Tag::Rlrq,
-        0xC0 => Tag::GetRequest,
-        0xC1 => Tag::SetRequest,
-        0xC3 => Tag::ActionRequest,
-        0xCB => Tag::GloActionRequest,
-        0xD0 => Tag::DedGetRequest,
-        0xD1 => Tag::DedSetRequest,
-        0xD3 => Tag::DedActionRequest,
+        0xC0 => Tag::PlainRequest(ServiceKind::Get),
+        0xC1 => Tag::PlainRequest(ServiceKind::Set),
+        0xC3 => Tag::PlainRequest(ServiceKind::Action),
+        0xCB => Tag::GlobalAction,
+        0xD0 => Tag::DedicatedRequest(ServiceKind::Get),
+        0xD1 => Tag::DedicatedRequest(ServiceKind::Set),
+        0xD3 => Tag::DedicatedRequest(ServiceKind::Action),
         _ => Tag::Unknown,
     }
 }
@@ -38,6 +39,28 @@ pub fn tag_in(apdu: &[u8]) -> Tag
         return Tag::Unknown;
     };
     tag_of(first as u8)
+}
+
+// The tag byte of a request under the dedicated key, by its service.
+pub fn dedicated_tag(kind: ServiceKind) -> u8
+    ensures { λ r. ⌜ r ≡ dedicatedTag kind ⌝ }
+{
+    match kind {
+        ServiceKind::Get => 0xD0,
+        ServiceKind::Set => 0xD1,
+        ServiceKind::Action => 0xD3,
+    }
+}
+
+// The tag byte of its answer.
+pub fn answer_tag(kind: ServiceKind) -> u8
+    ensures { λ r. ⌜ r ≡ answerTag (dedicatedTag kind) ⌝ }
+{
+    match kind {
+        ServiceKind::Get => 0xD4,
+        ServiceKind::Set => 0xD5,
+        ServiceKind::Action => 0xD7,
+    }
 }
 
 // Whether an APDU is the release request.

@@ -25,6 +25,7 @@ use Rattle.wire.proofs.WroteLaws.{past, there}
 use Rattle.hdlc.specs.declared.Head.{Head}
 use Rattle.hdlc.specs.Replies.{apduFrame, Sent}
 use Rattle.hdlc_write.proofs.ReplyLaws.{length-apdu}
+use Rattle.cosem.specs.Tags.{answerTag}
 use Rattle.acse.specs.Clients.{ciphers}
 use Rattle.envelope.specs.Layout.{Keys, sealedEnvelope}
 use Rattle.envelope.proofs.CloseLaws.{envelope-size, length-envelope}
@@ -227,14 +228,14 @@ module _ (q : Request) (b : Body) (at : ℕ) {l m : List ℕ} {r : BodyAnswer} (
 
   pub enclosed-sent : (c : CipherClient) (ak title : List ℕ) (h : Head) (tag counter : ℕ) (keys : Keys) (n : Line) {o : List ℕ} {k : ℕ} → at ≤ 20
       → keys ≡ dedicatedKeys ak c n → title ≡ n .title → counter ≡ counters c n .sent
-      → Sent (apduFrame h (sealedEnvelope keys title (tag + 4) counter (take (r .next - at) (drop at m)))) m o k
+      → Sent (apduFrame h (sealedEnvelope keys title (answerTag tag) counter (take (r .next - at) (drop at m)))) m o k
       → Sent (seal n (wrap ak (Ciphering c) h tag) (turned q b .bytes)) l o k
   unfolding seal around
   enclosed-sent c ak title h tag counter keys n e ek et ec s =
       let bs = turned q b .bytes in
       let u = rw (answer-there, ek, et, ec) at s in
-      let z : length (sealedEnvelope (dedicatedKeys ak c n) (n .title) (tag + 4) (counters c n .sent) bs) ≡ envelopeLength (length bs) = length-envelope (dedicatedKeys ak c n) (n .title) (tag + 4) (counters c n .sent) bs in
-      sent-over (t .wrote) u (omega (arith, t .wrote .next, z, envelope-size (length bs), length-apdu h (sealedEnvelope (dedicatedKeys ak c n) (n .title) (tag + 4) (counters c n .sent) bs)))
+      let z : length (sealedEnvelope (dedicatedKeys ak c n) (n .title) (answerTag tag) (counters c n .sent) bs) ≡ envelopeLength (length bs) = length-envelope (dedicatedKeys ak c n) (n .title) (answerTag tag) (counters c n .sent) bs in
+      sent-over (t .wrote) u (omega (arith, t .wrote .next, z, envelope-size (length bs), length-apdu h (sealedEnvelope (dedicatedKeys ak c n) (n .title) (answerTag tag) (counters c n .sent) bs)))
 
 -- The call.
 

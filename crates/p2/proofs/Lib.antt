@@ -3,4 +3,3 @@ pub mod Endings
 pub mod Lengths
 pub mod Envelopes
 pub mod Runs
-pub mod Requests

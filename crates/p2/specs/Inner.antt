@@ -16,8 +16,6 @@ use Rattle.model.specs.Demand3.{Gave}
 use Rattle.hdlc.specs.declared.Head.{Head}
 use Rattle.cosem.specs.declared.Exception.{Exception}
 use Rattle.cosem.specs.Tags.{exceptionBytes}
-use Rattle.cosem.specs.declared.Tag.{Tag}
-use Rattle.cosem.specs.declared.Tag.the-variants.{Aarq, Rlrq, GetRequest, SetRequest, ActionRequest, GloActionRequest, DedGetRequest, DedSetRequest, DedActionRequest, Unknown}
 use Rattle.envelope.specs.declared.ReadyKeys.{ReadyKeys}
 use Rattle.envelope.specs.Layout.{keysOf}
 use Rattle.line.specs.declared.LineState.{LineState}
@@ -53,20 +51,6 @@ meterWith l b = record { line = l; body = b }
 -- what a function within the call may take for granted: a sound meter, and a buffer with reply room
 abbrev pub Ready : Meter → (out : List ℕ) → Type 0
 Ready m out = (sound (view m) ≡ true) × HasRoom out
-
--- the tag byte of a request in its envelope: D0 for GET, D3 for ACTION. It is asked for of these two alone, and is then the tag
--- that the ruling has: `request-ruled` of proofs/Requests. The other clauses say nothing of a frame.
-abbrev pub requestByte : Tag → ℕ
-requestByte DedGetRequest = 0xD0
-requestByte DedActionRequest = 0xD3
-requestByte Aarq = 0xD3
-requestByte Rlrq = 0xD3
-requestByte GetRequest = 0xD3
-requestByte SetRequest = 0xD3
-requestByte ActionRequest = 0xD3
-requestByte GloActionRequest = 0xD3
-requestByte DedSetRequest = 0xD3
-requestByte Unknown = 0xD3
 
 -- what a ruling of the protocol comes to, as the three parts of `Answered`
 pub record Follows (x : Ruling) (m : Meter) (l o : List ℕ) (r : Received) : Type 0 where

@@ -7,6 +7,7 @@ use crate::ending::kept;
 use cosem::Asked;
 use cosem::Exception;
 use cosem::Reading;
+use cosem::ServiceKind;
 use envelope::Admission;
 use envelope::LONGEST_APDU;
 use envelope::ReadyKeys;
@@ -23,21 +24,29 @@ ghost use mathlib.Core.List.{List};
 ghost use Prim.Native.Nat.{ℕ, _<_};
 ghost use Rattle.model.specs.State.{none};
 ghost use Rattle.model.specs.declared.Client.the-variants.{Ciphering, Verification};
-ghost use Rattle.cosem.specs.Requests.{readGet, requested};
+ghost use Rattle.cosem.specs.Tags.{dedicatedTag};
+ghost use Rattle.cosem.specs.Requests.{readService, requested};
 ghost use Rattle.line.specs.View.{lineOf};
 ghost use Rattle.protocol.specs.declared.Secrets.{Secrets as Lender};
 ghost use Rattle.protocol.specs.Clients.{associates, selectiveIn};
 ghost use Rattle.protocol.specs.Rulings.{asks, nothing, outsideWindow, says};
-ghost use Rattle.protocol.specs.Decide.{accepted, advanced, asked, askedInside, ofCiphering, readInside, requestEnclosed, wrap};
+ghost use Rattle.protocol.specs.Decide.{accepted, advanced, asked, askedInside, ofCiphering, requestEnclosed, wrap};
 ghost use Rattle.p2.specs.Inner.{Follows, FollowsUnder, Ready, Tells};
 
 // A plain request. No key has a part in it.
-pub fn ask_plain(meter: Meter, client: Client, head: Head, apdu: &[u8], out: &mut [u8]) -> Received
+pub fn ask_plain(
+    meter: Meter,
+    client: Client,
+    head: Head,
+    kind: ServiceKind,
+    apdu: &[u8],
+    out: &mut [u8],
+) -> Received
     requires { ⌜ Ready meter (now out) ⌝ }
-    ensures { λ r. ⌜ ((a : Lender) → Follows (asked (lineOf (meter .line)) a client head (now (apdu .entry)) (readGet (now (apdu .entry)))) meter (now (out .entry)) (now (out .exit)) r) ⌝ }
+    ensures { λ r. ⌜ ((a : Lender) → Follows (asked (lineOf (meter .line)) a client head (now (apdu .entry)) (readService kind (now (apdu .entry)))) meter (now (out .entry)) (now (out .exit)) r) ⌝ }
 {
     let line = meter.line;
-    let reading = cosem::read_get(apdu);
+    let reading = cosem::read_service(kind, apdu);
     match reading {
         Reading::Asks(request) => answer_plain(meter, client, head, apdu, request, out),
         Reading::Malformed => { joined(except(line, head, Exception::ServiceUnknown, out), meter) }
@@ -77,47 +86,57 @@ pub fn ask_ciphered(
     secrets: Secrets,
     client: Client,
     head: Head,
-    tag: u8,
+    kind: ServiceKind,
     apdu: &[u8],
     out: &mut [u8],
 ) -> Received
-    requires { ⌜ (Ready meter (now out)) × (tag < 0xFC) ⌝ }
-    ensures { λ r. ⌜ Follows (ofCiphering (lineOf (meter .line)) client head (λ c. requestEnclosed (lineOf (meter .line)) secrets c head tag (now (apdu .entry)))) meter (now (out .entry)) (now (out .exit)) r ⌝ }
+    requires { ⌜ Ready meter (now out) ⌝ }
+    ensures { λ r. ⌜ Follows (ofCiphering (lineOf (meter .line)) client head (λ c. requestEnclosed (lineOf (meter .line)) secrets c head kind (now (apdu .entry)))) meter (now (out .entry)) (now (out .exit)) r ⌝ }
 {
     let line = meter.line;
     match client {
         Client::Verification => {
             joined(except(line, head, Exception::ServiceNotAllowed, out), meter)
         }
-        Client::Ciphering(c) => ask_enclosed(meter, secrets, c, head, tag, apdu, out),
+        Client::Ciphering(c) => ask_enclosed(meter, secrets, c, head, kind, apdu, out),
     }
 }
 
-// A request of a client that ciphers in its envelope, with the tag of GET or of ACTION.
+// A request of a client that ciphers, in its envelope.
 fn ask_enclosed(
     meter: Meter,
     secrets: Secrets,
     client: CipherClient,
     head: Head,
-    tag: u8,
+    kind: ServiceKind,
     apdu: &[u8],
     out: &mut [u8],
 ) -> Received
-    requires { ⌜ (Ready meter (now out)) × (tag < 0xFC) ⌝ }
-    ensures { λ r. ⌜ Follows (requestEnclosed (lineOf (meter .line)) secrets client head tag (now (apdu .entry))) meter (now (out .entry)) (now (out .exit)) r ⌝ }
+    requires { ⌜ Ready meter (now out) ⌝ }
+    ensures { λ r. ⌜ Follows (requestEnclosed (lineOf (meter .line)) secrets client head kind (now (apdu .entry))) meter (now (out .entry)) (now (out .exit)) r ⌝ }
 {
     let line = meter.line;
     let ak = secrets.ak;
     let pair = association::counters_of(line, client);
     let keys = association::dedicated_keys(ak, line, client);
     let title = association::title_of(line, Client::Ciphering(client));
+    let tag = cosem::dedicated_tag(kind);
     let mut text = [0u8; LONGEST_APDU];
     let admission = envelope::admit_envelope(keys, title, tag, pair, apdu, &mut text);
     match admission {
         Admission::Unopened => joined(kept(6, line), meter),
         Admission::OutsideWindow => joined(drop_association(line, client), meter),
         Admission::Admitted { counter, size } => {
-            ask_inside(meter, client, keys, head, tag, counter, &text[0..size], out)
+            ask_inside(
+                meter,
+                client,
+                keys,
+                head,
+                kind,
+                counter,
+                &text[0..size],
+                out,
+            )
         }
     }
 }
@@ -149,34 +168,23 @@ fn ask_inside(
     client: CipherClient,
     keys: ReadyKeys,
     head: Head,
-    tag: u8,
+    kind: ServiceKind,
     counter: u32,
     text: &[u8],
     out: &mut [u8],
 ) -> Received
-    requires { ⌜ (Ready meter (now out)) × (tag < 0xFC) ⌝ }
-    ensures { λ r. ⌜ FollowsUnder client keys (λ a. askedInside (lineOf (meter .line)) a client head tag counter (now (text .entry)) (readInside tag (now (text .entry)))) meter (now (out .entry)) (now (out .exit)) r ⌝ }
+    requires { ⌜ Ready meter (now out) ⌝ }
+    ensures { λ r. ⌜ FollowsUnder client keys (λ a. askedInside (lineOf (meter .line)) a client head kind counter (now (text .entry)) (readService kind (now (text .entry)))) meter (now (out .entry)) (now (out .exit)) r ⌝ }
 {
-    let reading = read_inside(tag, text);
+    let reading = cosem::read_service(kind, text);
     match reading {
         Reading::Asks(request) => {
-            answer_enclosed(meter, client, keys, head, tag, counter, text, request, out)
+            answer_enclosed(meter, client, keys, head, kind, counter, text, request, out)
         }
         Reading::Malformed => {
             let next = accept_counter(meter.line, client, counter);
             joined(except(next, head, Exception::ServiceUnknown, out), meter)
         }
-    }
-}
-
-// GET where the tag is that of GET, else ACTION.
-fn read_inside(tag: u8, text: &[u8]) -> Reading
-    ensures { λ r. ⌜ r ≡ readInside tag (now (text .entry)) ⌝ }
-{
-    if tag == 0xD0 {
-        cosem::read_get(text)
-    } else {
-        cosem::read_action(text)
     }
 }
 
@@ -186,14 +194,14 @@ fn answer_enclosed(
     client: CipherClient,
     keys: ReadyKeys,
     head: Head,
-    tag: u8,
+    kind: ServiceKind,
     counter: u32,
     text: &[u8],
     request: Asked,
     out: &mut [u8],
 ) -> Received
-    requires { ⌜ (Ready meter (now out)) × (tag < 0xFC) ⌝ }
-    ensures { λ r. ⌜ FollowsUnder client keys (λ a. asks (requested (Ciphering client) (selectiveIn (Ciphering client) (lineOf (meter .line))) (now (text .entry)) request) (wrap (a .ak) (Ciphering client) head tag) (advanced client (accepted client counter (lineOf (meter .line))))) meter (now (out .entry)) (now (out .exit)) r ⌝ }
+    requires { ⌜ Ready meter (now out) ⌝ }
+    ensures { λ r. ⌜ FollowsUnder client keys (λ a. asks (requested (Ciphering client) (selectiveIn (Ciphering client) (lineOf (meter .line))) (now (text .entry)) request) (wrap (a .ak) (Ciphering client) head (dedicatedTag kind)) (advanced client (accepted client counter (lineOf (meter .line))))) meter (now (out .entry)) (now (out .exit)) r ⌝ }
 {
     let line = meter.line;
     let body = meter.body;
@@ -207,7 +215,8 @@ fn answer_enclosed(
     let answer = answers::answer(body, asking, selective, text, request, out, TEXT_AT);
     let size = answer.next - TEXT_AT;
     let title = line.title;
-    let count = replies::send_enclosed(out, head, keys, title, tag + 4, number, size);
+    let tag = cosem::answer_tag(kind);
+    let count = replies::send_enclosed(out, head, keys, title, tag, number, size);
     let after = answer.body;
     let changed = Meter {
         line: next,

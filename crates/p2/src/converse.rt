@@ -20,7 +20,7 @@ ghost use Rattle.cosem.specs.Tags.{tagIn};
 ghost use Rattle.line.specs.View.{lineOf};
 ghost use Rattle.protocol.specs.Decide.{byTag, carried, conversed, released};
 ghost use Rattle.replies.specs.Room.{HasRoom};
-ghost use Rattle.p2.specs.Inner.{Follows, Ready, requestByte, Tells};
+ghost use Rattle.p2.specs.Inner.{Follows, Ready, Tells};
 
 // An APDU.
 pub fn carry(
@@ -67,7 +67,7 @@ fn converse(
     by_tag(meter, secrets, client, head, apdu, tag, out)
 }
 
-// An APDU by its tag. `converse` has refused the last four before.
+// An APDU by its tag. `converse` has refused an unknown one before.
 fn by_tag(
     meter: Meter,
     secrets: Secrets,
@@ -84,36 +84,14 @@ fn by_tag(
     match tag {
         Tag::Aarq => joined(associate(line, secrets, client, head, apdu, out), meter),
         Tag::Rlrq => joined(release(line, client, head, apdu, out), meter),
-        Tag::GetRequest => ask_plain(meter, client, head, apdu, out),
-        Tag::GloActionRequest => joined(
-            hear_ciphered(line, secrets, client, head, apdu, out),
-            meter,
-        ),
-        Tag::DedGetRequest | Tag::DedActionRequest => {
-            ask_ciphered(meter, secrets, client, head, request_byte(tag), apdu, out)
+        Tag::PlainRequest(kind) => ask_plain(meter, client, head, kind, apdu, out),
+        Tag::GlobalAction => {
+            joined(hear_ciphered(line, secrets, client, head, apdu, out), meter)
         }
-        Tag::SetRequest => joined(except(line, head, Exception::ServiceNotAllowed, out), meter),
-        Tag::ActionRequest => joined(except(line, head, Exception::ServiceNotAllowed, out), meter),
-        Tag::DedSetRequest => joined(except(line, head, Exception::ServiceNotAllowed, out), meter),
+        Tag::DedicatedRequest(kind) => {
+            ask_ciphered(meter, secrets, client, head, kind, apdu, out)
+        }
         Tag::Unknown => joined(except(line, head, Exception::ServiceUnknown, out), meter),
-    }
-}
-
-// The tag byte of a request in its envelope: D0 for GET, D3 for ACTION. `by_tag` asks for these two alone.
-fn request_byte(tag: Tag) -> u8
-    ensures { λ r. ⌜ r ≡ requestByte tag ⌝ }
-{
-    match tag {
-        Tag::DedGetRequest => 0xD0,
-        Tag::DedActionRequest => 0xD3,
-        Tag::Aarq => 0xD3,
-        Tag::Rlrq => 0xD3,
-        Tag::GetRequest => 0xD3,
-        Tag::SetRequest => 0xD3,
-        Tag::ActionRequest => 0xD3,
-        Tag::GloActionRequest => 0xD3,
-        Tag::DedSetRequest => 0xD3,
-        Tag::Unknown => 0xD3,
     }
 }
 

@@ -34,7 +34,7 @@ use Rattle.hdlc.proofs.ReadingLaws.{Told, read-told}
 use Rattle.hdlc.proofs.RoundTrip.{ReadBack, read-back, reply-passes}
 use Rattle.cosem.specs.declared.Exception.{Exception}
 use Rattle.cosem.specs.declared.Exception.the-variants.{ServiceNotAllowed, ServiceUnknown}
-use Rattle.cosem.specs.Tags.{exceptionBytes}
+use Rattle.cosem.specs.Tags.{exceptionBytes, dedicatedTag}
 use Rattle.cosem.specs.Requests.{requested}
 use Rattle.acse.specs.Aare.{rejectedAare}
 use Rattle.acse.proofs.Layouts.{length-rejected}
@@ -202,8 +202,8 @@ module _ (a : Lent) (m : Model) (title : length (m .line .title) ≡ 8) (challen
   framed-ruled odd meter (by.serves s q from) e =
       let r = requested Verification (selectiveIn Verification l) s q in
       framed-plain f odd meter l (a .ak) _ (turned-some r (m .body)) (turned-fits r (m .body))
-  framed-ruled odd meter (by.servesInside tag s q counter k {c} from o w) e =
-      framed-inside f odd meter c (advanced c (accepted c counter l)) (a .ak) _ tag (turned-fits (requested (Ciphering c) (selectiveIn (Ciphering c) l) s q) (m .body))
+  framed-ruled odd meter (by.servesInside kind s q counter k {c} from o w) e =
+      framed-inside f odd meter c (advanced c (accepted c counter l)) (a .ak) _ (dedicatedTag kind) (turned-fits (requested (Ciphering c) (selectiveIn (Ciphering c) l) s q) (m .body))
 
   framed-passed : AllPass meterSide f frameTests → {r : Ruling} → by.Ruled l (secretsOf a) f r → Sends (decided p2 (decision r) m)
   framed-passed p r = framed-ruled (odd-all f p) (meter-all f p) r

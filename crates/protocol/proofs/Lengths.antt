@@ -14,7 +14,8 @@ use Rattle.hdlc.specs.Tests.{replyLlc}
 use Rattle.hdlc.proofs.LayoutLaws.{length-full}
 use Rattle.envelope.proofs.CloseLaws.{length-envelope}
 use Rattle.protocol.specs.Clients.{counters, dedicatedKeys}
-use Rattle.protocol.specs.Decide.{answerTag, aroundFor, around, seal, p2}
+use Rattle.cosem.specs.Tags.{answerTag}
+use Rattle.protocol.specs.Decide.{aroundFor, around, seal, p2}
 
 -- the bytes around an answer of n bytes: none for V, an envelope for a client that ciphers
 abbrev pub aroundLength : Client → ℕ → ℕ

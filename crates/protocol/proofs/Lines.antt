@@ -22,12 +22,13 @@ use Rattle.hdlc.specs.declared.Frame.{Frame}
 use Rattle.hdlc.specs.declared.Frame.the-variants.{Unanswered, Rejected, LinkUp, LinkDown, Apdu}
 use Rattle.hdlc.specs.Reading.{readFrame}
 use Rattle.cosem.specs.declared.Tag.{Tag}
-use Rattle.cosem.specs.declared.Tag.the-variants.{Aarq, Rlrq, GetRequest, SetRequest, ActionRequest, GloActionRequest, DedGetRequest, DedSetRequest, DedActionRequest, Unknown}
+use Rattle.cosem.specs.declared.Tag.the-variants.{Aarq, Rlrq, PlainRequest, GlobalAction, DedicatedRequest, Unknown}
+use Rattle.cosem.specs.declared.ServiceKind.{ServiceKind}
 use Rattle.cosem.specs.declared.Asked.{Asked}
 use Rattle.cosem.specs.declared.Reading.{Reading}
 use Rattle.cosem.specs.declared.Reading.the-variants.{Asks, Malformed}
-use Rattle.cosem.specs.Tags.{tagIn, isRelease}
-use Rattle.cosem.specs.Requests.{readGet, readAction}
+use Rattle.cosem.specs.Tags.{dedicatedTag, tagIn, isRelease}
+use Rattle.cosem.specs.Requests.{readAction, readService}
 use Rattle.acse.specs.declared.Aarq.{Aarq as ReadAarq}
 use Rattle.acse.specs.declared.Aarq.the-variants.{Plain, Ciphered, Departs}
 use Rattle.acse.specs.declared.InitiateRequest.{InitiateRequest}
@@ -40,7 +41,7 @@ use Rattle.envelope.specs.Opening.{Opened, fails, opens, opened}
 use Rattle.protocol.specs.declared.Secrets.{Secrets}
 use Rattle.protocol.specs.Clients.{ciphering, peer, withPeer, linked, associates, withAssociation, counters, withCounters, held, agreedIn, keyIn, lentKeys, dedicatedKeys, isPending, permitted, bitAgreed, isUnknown}
 use Rattle.protocol.specs.Rulings.{Ruling, decision}
-use Rattle.protocol.specs.Decide.{heldByP5, linkUp, linkDown, acceptedPlain, acceptedCiphered, initiated, enclosed, associating, released, asked, askedInside, readInside, isChallenge, provesItself, proved, disproved, challenged, answeredChallenge, admitted, challengeEnclosed, requestEnclosed, ofCiphering, byTag, conversed, carried, heard, secretsOf, ruled, decide, p2}
+use Rattle.protocol.specs.Decide.{heldByP5, linkUp, linkDown, acceptedPlain, acceptedCiphered, initiated, enclosed, associating, released, asked, askedInside, isChallenge, provesItself, proved, disproved, challenged, answeredChallenge, admitted, challengeEnclosed, requestEnclosed, ofCiphering, byTag, conversed, carried, heard, secretsOf, ruled, decide, p2}
 
 -- a client's part of the line is sound
 record Good (c : Client) (p : Peer) : Type 0 where
@@ -145,18 +146,18 @@ module _ (l : Line) (s : soundLine l ≡ true) where
     keeps-enclosed client up fails = s
     keeps-enclosed client up (opens counter text) = keeps-initiated client text counter up (readRequest text)
 
-    keeps-inside : (tag counter : ℕ) (text : List ℕ) (r : Reading) → Keeps (askedInside l a k h tag counter text r)
-    keeps-inside tag counter text Malformed = counted _ l s
-    keeps-inside tag counter text (Asks q) = counted _ _ (counted _ l s)
+    keeps-inside : (kind : ServiceKind) (counter : ℕ) (text : List ℕ) (r : Reading) → Keeps (askedInside l a k h kind counter text r)
+    keeps-inside kind counter text Malformed = counted _ l s
+    keeps-inside kind counter text (Asks q) = counted _ _ (counted _ l s)
 
     keeps-admitted : (o : Opened) (f : (counter : ℕ) → List ℕ → Ruling) → ((counter : ℕ) (text : List ℕ) → Keeps (f counter text)) → Keeps (admitted l k o f)
     keeps-admitted fails f i = s
     keeps-admitted (opens counter text) f i = keeps-if (inWindow (counters k l .accepted) counter) _ _ (λ _. i counter text) (λ _. ends (Ciphering k))
 
-    keeps-request : (tag : ℕ) (apdu : List ℕ) → Keeps (requestEnclosed l a k h tag apdu)
+    keeps-request : (kind : ServiceKind) (apdu : List ℕ) → Keeps (requestEnclosed l a k h kind apdu)
     unfolding requestEnclosed
-    keeps-request tag apdu =
-        keeps-admitted (opened (dedicatedKeys (a .ak) k l) (ciphering k l .peer .title) tag apdu) _ (λ counter text. keeps-inside tag counter text (readInside tag text))
+    keeps-request kind apdu =
+        keeps-admitted (opened (dedicatedKeys (a .ak) k l) (ciphering k l .peer .title) (dedicatedTag kind) apdu) _ (λ counter text. keeps-inside kind counter text (readService kind text))
 
     keeps-disproved : (invoke counter : ℕ) → Keeps (disproved l a k h invoke counter)
     unfolding disproved
@@ -213,14 +214,10 @@ module _ (l : Line) (s : soundLine l ≡ true) where
     keeps-tag : (apdu : List ℕ) (t : Tag) → permitted c (peer c l .association) t ≡ true → Keeps (byTag l a c h apdu t)
     keeps-tag apdu Aarq p = keeps-associating c up apdu (readAarq apdu c (peer c l .title))
     keeps-tag apdu Rlrq p = keeps-released apdu
-    keeps-tag apdu GetRequest p = keeps-asked apdu (readGet apdu)
-    keeps-tag apdu SetRequest p = s
-    keeps-tag apdu ActionRequest p = s
-    keeps-tag apdu GloActionRequest p =
+    keeps-tag apdu (PlainRequest kind) p = keeps-asked apdu (readService kind apdu)
+    keeps-tag apdu GlobalAction p =
         keeps-ofCiphering c _ (λ k e. keeps-challenge a k h (rw e at (both (isPending (peer c l .association)) (ciphers c) p .0)) (rw e at up) apdu)
-    keeps-tag apdu DedGetRequest p = keeps-ofCiphering c _ (λ k e. keeps-request a k h 0xD0 apdu)
-    keeps-tag apdu DedSetRequest p = s
-    keeps-tag apdu DedActionRequest p = keeps-ofCiphering c _ (λ k e. keeps-request a k h 0xD3 apdu)
+    keeps-tag apdu (DedicatedRequest kind) p = keeps-ofCiphering c _ (λ k e. keeps-request a k h kind apdu)
     keeps-tag apdu Unknown p = s
 
     keeps-conversed : (apdu : List ℕ) (t : Tag) → Keeps (conversed l a c h apdu t)

@@ -26,6 +26,8 @@ use Rattle.hdlc.specs.Layout.{frmr, byte}
 use Rattle.hdlc.specs.Addresses.{addressOf, senderOf}
 use Rattle.hdlc.specs.Tests.{numberOf}
 use Rattle.hdlc.specs.Replies.{replyFrame}
+use Rattle.cosem.specs.declared.ServiceKind.{ServiceKind}
+use Rattle.cosem.specs.Tags.{dedicatedTag}
 use Rattle.cosem.specs.Requests.{requested}
 use Rattle.counters.specs.Advance.{taken}
 use Rattle.counters.specs.Window.{accepting}
@@ -97,8 +99,8 @@ module _ (a : Lent) (m : Model) where
   row-served q c from (by-turn.grants e) = rw e (grants q from c)
   row-served q c from (by-turn.denies e b d) = rw (e, b) (denial from d)
 
-  row-inside : (c : CipherClient) {tag : ℕ} {asked : List ℕ} (q : Request) (n : ℕ) → q .client ≡ Ciphering c → Enclosed tag → SentBy (Ciphering c) a → Brings a (m .line) c tag n asked → Accepted c n (m .line) → by-turn.Turning (m .body) (turned q (m .body))
-      → Row a m (decided p2 (serve q (wrap (a .ak) (Ciphering c) (headIn a) tag) (advanced c (accepted c n (m .line)))) m)
+  row-inside : (c : CipherClient) {k : ServiceKind} {asked : List ℕ} (q : Request) (n : ℕ) → q .client ≡ Ciphering c → Enclosed k → SentBy (Ciphering c) a → Brings a (m .line) c (dedicatedTag k) n asked → Accepted c n (m .line) → by-turn.Turning (m .body) (turned q (m .body))
+      → Row a m (decided p2 (serve q (wrap (a .ak) (Ciphering c) (headIn a) (dedicatedTag k)) (advanced c (accepted c n (m .line)))) m)
   unfolding seal around taken accepting
   row-inside Han q n c get from o w (by-turn.grants e) = rw e (grantsInside q from get o w c)
   row-inside Han q n c action from o w (by-turn.grants e) = rw e (grantsInside q from action o w c)
@@ -288,7 +290,7 @@ module _ (a : Lent) (m : Model) where
   advanced-row c (exception x) h e = absurd (omega arith)
   advanced-row c (exceptionInside x from o w) h e = absurd (omega arith)
   advanced-row c (denial from d) h e = one-sender c from h
-  advanced-row c (denialInside {c = d} {text} {asked} {tag} {n} from k o w x) h e = subst (λ (y : CipherClient). Advanced a (m .line) y (advanced d (accepted d n (m .line)))) (same-sender c d h from) (counters k o w)
+  advanced-row c (denialInside {c = d} {text} {asked} {k = kind} {n} from k o w x) h e = subst (λ (y : CipherClient). Advanced a (m .line) y (advanced d (accepted d n (m .line)))) (same-sender c d h from) (counters k o w)
   advanced-row c (wrongProof invoke {c = d} {n} from o w) h e = subst (λ (y : CipherClient). Advanced a (m .line) y (advanced d (accepted d n (associates (Ciphering d) none (m .line))))) (same-sender c d h from) (association o w)
   advanced-row c (links after) h e = absurd (omega arith)
   advanced-row c (tells bs after) h e = absurd (omega arith)

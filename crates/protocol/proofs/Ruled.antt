@@ -1,7 +1,7 @@
 -- What a frame comes to on a line, told apart by the rows of document 01's table: one walk through the rulings, from which the
 -- statements of specs/Outcomes follow.
 use mathlib.Core.Path.{_≡_, refl, _∙_}
-use mathlib.Core.Bool.{Bool, true, false, cond, not, false≢true}
+use mathlib.Core.Bool.{Bool, true, false, cond, not, false≢true, and-false}
 use mathlib.Core.List.{List, [], _∷_, _++_}
 use Prim.Native.Nat.{ℕ, _-_, _≤_, _<_}
 use native.Mathlib.Omega.{arith}
@@ -27,14 +27,16 @@ use Rattle.hdlc.specs.Tests.{numberOf}
 use Rattle.hdlc.specs.Reading.{readFrame}
 use Rattle.hdlc.proofs.ReadingLaws.{Told, read-told}
 use Rattle.cosem.specs.declared.Tag.{Tag}
-use Rattle.cosem.specs.declared.Tag.the-variants.{Aarq, Rlrq, GetRequest, SetRequest, ActionRequest, GloActionRequest, DedGetRequest, DedSetRequest, DedActionRequest, Unknown}
+use Rattle.cosem.specs.declared.Tag.the-variants.{Aarq, Rlrq, PlainRequest, GlobalAction, DedicatedRequest, Unknown}
+use Rattle.cosem.specs.declared.ServiceKind.{ServiceKind}
+use Rattle.cosem.specs.declared.ServiceKind.the-variants.{Get, Set, Action}
 use Rattle.cosem.specs.declared.Asked.{Asked}
 use Rattle.cosem.specs.declared.Exception.{Exception}
 use Rattle.cosem.specs.declared.Exception.the-variants.{ServiceNotAllowed, ServiceUnknown}
 use Rattle.cosem.specs.declared.Reading.{Reading}
 use Rattle.cosem.specs.declared.Reading.the-variants.{Asks, Malformed}
-use Rattle.cosem.specs.Tags.{tagIn, isRelease, releaseResponse, exceptionBytes}
-use Rattle.cosem.specs.Requests.{readGet, readAction, requested}
+use Rattle.cosem.specs.Tags.{dedicatedTag, tagIn, isRelease, releaseResponse, exceptionBytes}
+use Rattle.cosem.specs.Requests.{readGet, readAction, readService, requested}
 use Rattle.acse.specs.declared.Aarq.{Aarq as ReadAarq}
 use Rattle.acse.specs.declared.Aarq.the-variants.{Plain, Ciphered, Departs}
 use Rattle.acse.specs.declared.InitiateRequest.{InitiateRequest}
@@ -56,7 +58,7 @@ use Rattle.protocol.specs.declared.Secrets.{Secrets}
 use Rattle.protocol.specs.Clients.{ciphering, peer, associates, counters, held, agreedIn, clientChallenge, selectiveIn, lentKeys, dedicatedKeys, isPending, isAssociated, permitted, bitAgreed, isUnknown}
 use Rattle.protocol.specs.Rulings.{provedText, Test, none as noTest, frame, linkUpWithInformation, p5HoldsV, linkDownWhileDown, dataWhileDown, unknownTag, tagNotPermitted, bitNotAgreed, aarqNotAccepted, envelopeUnopened, outsideWindow, malformedApdu, notTheChallenge, refusalOf, nothing, ua, dm, reject, apdu, bytesOf, Reply, Ruling, says, asks}
 use Rattle.protocol.specs.Outcomes.{apduOf, Enclosed, get, action, Opens, underGuk, underKey}
-use Rattle.protocol.specs.Decide.{heldByP5, linkUp, linkDown, acceptedPlain, acceptedCiphered, initiated, enclosed, associating, released, wrap, asked, accepted, advanced, askedInside, readInside, isChallenge, provesItself, proved, disproved, challenged, answeredChallenge, admitted, challengeEnclosed, requestEnclosed, ofCiphering, byTag, conversed, set, plainAction, enclosedSet, unknown, Unreached, carried, heard, secretsOf, ruled}
+use Rattle.protocol.specs.Decide.{heldByP5, linkUp, linkDown, acceptedPlain, acceptedCiphered, initiated, enclosed, associating, released, wrap, asked, accepted, advanced, askedInside, isChallenge, provesItself, proved, disproved, challenged, answeredChallenge, admitted, challengeEnclosed, requestEnclosed, ofCiphering, byTag, conversed, set, plainAction, enclosedSet, unknown, Unreached, carried, heard, secretsOf, ruled}
 
 -- the frame is this client's
 abbrev pub From : Client → List ℕ → Type 0
@@ -98,8 +100,8 @@ pub data Ruled (l : Line) (a : Secrets) (f : List ℕ) : Ruling → Type 0 where
   -- 0 or 13 of the body
   serves : (s : List ℕ) (q : Asked) → From Verification f
       → Ruled l a f (asks (requested Verification (selectiveIn Verification l) s q) (wrap (a .ak) Verification (headOf f) 0xC0) l)
-  servesInside : (tag : ℕ) (s : List ℕ) (q : Asked) (counter : ℕ) → Enclosed tag → {c : CipherClient} → From (Ciphering c) f → Opens a f l c tag counter s → InWindow l c counter
-      → Ruled l a f (asks (requested (Ciphering c) (selectiveIn (Ciphering c) l) s q) (wrap (a .ak) (Ciphering c) (headOf f) tag) (advanced c (accepted c counter l)))
+  servesInside : (k : ServiceKind) (s : List ℕ) (q : Asked) (counter : ℕ) → Enclosed k → {c : CipherClient} → From (Ciphering c) f → Opens a f l c (dedicatedTag k) counter s → InWindow l c counter
+      → Ruled l a f (asks (requested (Ciphering c) (selectiveIn (Ciphering c) l) s q) (wrap (a .ak) (Ciphering c) (headOf f) (dedicatedTag k)) (advanced c (accepted c counter l)))
 
 -- the answer to a proof: C7 01, the invoke byte, 00 01 00, and the meter's own proof
 length-proved : (k : Keys) (title challenge : List ℕ) (invoke number : ℕ) → length (provedText k title challenge invoke number) ≡ 25
@@ -182,15 +184,15 @@ module _ (l : Line) (a : Secrets) (f : List ℕ) where
         let o = b counter text refl in
         ruled-if (inWindow (counters c l .accepted) counter) _ _ (k counter text o) (λ w. drops from o w)
 
-    rules-inside : (tag counter : ℕ) (text : List ℕ) → Enclosed tag → Opens a f l c tag counter text → InWindow l c counter → (r : Reading) → Is (askedInside l a c h tag counter text r)
-    rules-inside tag counter text t o w Malformed = exceptsInside malformedApdu ServiceUnknown counter refl from o w
-    rules-inside tag counter text t o w (Asks q) = servesInside tag text q counter t from o w
+    rules-inside : (k : ServiceKind) (counter : ℕ) (text : List ℕ) → Enclosed k → Opens a f l c (dedicatedTag k) counter text → InWindow l c counter → (r : Reading) → Is (askedInside l a c h k counter text r)
+    rules-inside k counter text t o w Malformed = exceptsInside malformedApdu ServiceUnknown counter refl from o w
+    rules-inside k counter text t o w (Asks q) = servesInside k text q counter t from o w
 
-    rules-request : (tag : ℕ) → Enclosed tag → Is (requestEnclosed l a c h tag s)
+    rules-request : (k : ServiceKind) → Enclosed k → Is (requestEnclosed l a c h k s)
     unfolding requestEnclosed
-    rules-request tag t =
-        rules-admitted (opened (dedicatedKeys (a .ak) c l) (ciphering c l .peer .title) tag s) _ (λ counter text e. underKey t e)
-        (λ counter text o w. rules-inside tag counter text t o w (readInside tag text))
+    rules-request k t =
+        rules-admitted (opened (dedicatedKeys (a .ak) c l) (ciphering c l .peer .title) (dedicatedTag k) s) _ (λ counter text e. underKey t e)
+        (λ counter text o w. rules-inside k counter text t o w (readService k text))
 
     -- The challenge.
 
@@ -239,14 +241,14 @@ module _ (l : Line) (a : Secrets) (f : List ℕ) where
   rules-tag : (c : Client) → From c f → (t : Tag) → permitted c (peer c l .association) t ≡ true → Is (byTag l a c h s t)
   rules-tag c from Aarq p = rules-associating c from (readAarq s c (peer c l .title))
   rules-tag c from Rlrq p = rules-released c
-  rules-tag Verification from GetRequest p = rules-asked from (readGet s)
-  rules-tag (Ciphering c) from GetRequest p = absurd (false≢true (both (isAssociated (held c l)) false p .1))
-  rules-tag c from SetRequest p = excepts tagNotPermitted ServiceNotAllowed refl
-  rules-tag c from ActionRequest p = excepts tagNotPermitted ServiceNotAllowed refl
-  rules-tag c from GloActionRequest p = rules-ofCiphering c _ from rules-challenge
-  rules-tag c from DedGetRequest p = rules-ofCiphering c _ from (λ k o. rules-request k o 0xD0 get)
-  rules-tag c from DedSetRequest p = excepts tagNotPermitted ServiceNotAllowed refl
-  rules-tag c from DedActionRequest p = rules-ofCiphering c _ from (λ k o. rules-request k o 0xD3 action)
+  rules-tag Verification from (PlainRequest Get) p = rules-asked from (readGet s)
+  rules-tag (Ciphering c) from (PlainRequest Get) p = absurd (false≢true (both (isAssociated (held c l)) false p .1))
+  rules-tag c from (PlainRequest Set) p = absurd (false≢true (both (isAssociated (peer c l .association)) false p .1))
+  rules-tag c from (PlainRequest Action) p = absurd (false≢true (both (isAssociated (peer c l .association)) false p .1))
+  rules-tag c from GlobalAction p = rules-ofCiphering c _ from rules-challenge
+  rules-tag c from (DedicatedRequest Get) p = rules-ofCiphering c _ from (λ d o. rules-request d o Get get)
+  rules-tag c from (DedicatedRequest Set) p = absurd (false≢true (both (isAssociated (peer c l .association)) false p .1))
+  rules-tag c from (DedicatedRequest Action) p = rules-ofCiphering c _ from (λ d o. rules-request d o Action action)
   rules-tag c from Unknown p = excepts unknownTag ServiceUnknown refl
 
   rules-conversed : (c : Client) → From c f → (t : Tag) → Is (conversed l a c h s t)
@@ -277,7 +279,7 @@ rules l a = rules-heard l (secretsOf a) (a .received) (readFrame (a .received)) 
 
 -- four tags are refused before `byTag` is asked
 pub unreached : Unreached
-unreached SetRequest set l c h x y = refl
-unreached ActionRequest plainAction l c h x y = refl
-unreached DedSetRequest enclosedSet l c h x y = refl
+unreached (PlainRequest Set) set l c h x y = rw (and-false (isAssociated (peer c l .association))) refl
+unreached (PlainRequest Action) plainAction l c h x y = rw (and-false (isAssociated (peer c l .association))) refl
+unreached (DedicatedRequest Set) enclosedSet l c h x y = rw (and-false (isAssociated (peer c l .association))) refl
 unreached Unknown unknown l c h x y = refl

@@ -37,8 +37,10 @@ use Rattle.hdlc.proofs.RoundTrip.{read-back, reply-back}
 use Rattle.cosem.specs.declared.Wanted.the-variants.{Read}
 use Rattle.cosem.specs.declared.Asked.{Asked}
 use Rattle.cosem.specs.declared.Reading.the-variants.{Asks}
-use Rattle.cosem.specs.Tags.{tagOf, tagIn}
-use Rattle.cosem.specs.Requests.{optionalPart, readGet, nameIn, requested}
+use Rattle.cosem.specs.declared.ServiceKind.{ServiceKind}
+use Rattle.cosem.specs.declared.ServiceKind.the-variants.{Get}
+use Rattle.cosem.specs.Tags.{tagOf, tagIn, dedicatedTag, answerTag}
+use Rattle.cosem.specs.Requests.{optionalPart, readGet, readService, nameIn, requested}
 use Rattle.counters.specs.Advance.{nextCounter, taken}
 use Rattle.counters.specs.Window.{inWindow, accepting}
 use Rattle.envelope.specs.Layout.{Keys, head, sealedEnvelope}
@@ -49,7 +51,7 @@ use Rattle.envelope.proofs.RoundTrip.{opens-closed}
 use Rattle.meter.proofs.SameSecond.{afterDue, due-step, two-more, two-rows}
 use Rattle.protocol.specs.Clients.{ciphering, counters, selectiveIn, dedicatedKeys, isAssociated}
 use Rattle.protocol.specs.Rulings.{Ruling, asks, decision}
-use Rattle.protocol.specs.Decide.{wrap, accepted, advanced, readInside, requestEnclosed, conversed, carried, answerTag, around, seal, secretsOf, p2}
+use Rattle.protocol.specs.Decide.{wrap, accepted, advanced, requestEnclosed, conversed, carried, around, seal, secretsOf, p2}
 use Rattle.protocol.specs.Outcomes.{outcome, headIn, apduOf, Enclosed, get, action, toH}
 use Rattle.protocol.specs.Lazy.{requestFrame, Asking, NextCounter, twice, bothRows, getProfile, SecondRowRead, SecondRowHappens}
 use Rattle.protocol.proofs.Claim.{p2-stays-sound}
@@ -73,9 +75,9 @@ unfolding sealedEnvelope head
 tag-sealed k title tag counter text = tag-first tag _
 
 module _ (c : CipherClient) (l : Line) (a : Lent) (h : Head) (up : ciphering c l .peer .up ≡ true) (counter : ℕ) (text : List ℕ) (q : Asked) where
-  inside-carried : {tag : ℕ} → Enclosed tag → Asking c a l tag counter text → readInside tag text ≡ Asks q
-      → carried l (secretsOf a) (Ciphering c) h (sealedEnvelope (dedicatedKeys (a .ak) c l) (ciphering c l .peer .title) tag counter text)
-      ≡ asks (requested (Ciphering c) (selectiveIn (Ciphering c) l) text q) (wrap (a .ak) (Ciphering c) h tag) (advanced c (accepted c counter l))
+  inside-carried : {k : ServiceKind} → Enclosed k → Asking c a l k counter text → readService k text ≡ Asks q
+      → carried l (secretsOf a) (Ciphering c) h (sealedEnvelope (dedicatedKeys (a .ak) c l) (ciphering c l .peer .title) (dedicatedTag k) counter text)
+      ≡ asks (requested (Ciphering c) (selectiveIn (Ciphering c) l) text q) (wrap (a .ak) (Ciphering c) h (dedicatedTag k)) (advanced c (accepted c counter l))
   unfolding carried conversed requestEnclosed tagOf longestApdu
   inside-carried get k r =
       rw (
@@ -99,11 +101,11 @@ module _ (c : CipherClient) (l : Line) (a : Lent) (h : Head) (up : ciphering c l
       )
 
 -- what goes out around the body's answer, and the line that holds the counter taken
-sealed-outcome : (c : CipherClient) (a : Lent) (m : Model) (q : Request) (counter : ℕ) {tag : ℕ} → Enclosed tag
-    → decided p2 (serve q (wrap (a .ak) (Ciphering c) (headIn a) tag) (advanced c (accepted c counter (m .line)))) m
+sealed-outcome : (c : CipherClient) (a : Lent) (m : Model) (q : Request) (counter : ℕ) {k : ServiceKind} → Enclosed k
+    → decided p2 (serve q (wrap (a .ak) (Ciphering c) (headIn a) (dedicatedTag k)) (advanced c (accepted c counter (m .line)))) m
     ≡ record {
       refusal = turned q (m .body) .refusal;
-      sent = toH a (m .line) c tag (turned q (m .body) .bytes);
+      sent = toH a (m .line) c (dedicatedTag k) (turned q (m .body) .bytes);
       next = record { line = advanced c (accepted c counter (m .line)); body = turned q (m .body) .body };
     }
 unfolding seal around taken accepting
@@ -116,10 +118,10 @@ on-link Han l e = both (onLink (l .verification)) (onLink (l .han .peer)) e .1
 
 pub next-counter : NextCounter
 unfolding greatestApdu longestReceived
-next-counter c a m tag counter text q s t k r =
+next-counter c a m kind counter text q s t k r =
     let l = m .line in
-    let env = sealedEnvelope (dedicatedKeys (a .ak) c l) (ciphering c l .peer .title) tag counter text in
-    let n = length-envelope (dedicatedKeys (a .ak) c l) (ciphering c l .peer .title) tag counter text in
+    let env = sealedEnvelope (dedicatedKeys (a .ak) c l) (ciphering c l .peer .title) (dedicatedTag kind) counter text in
+    let n = length-envelope (dedicatedKeys (a .ak) c l) (ciphering c l .peer .title) (dedicatedTag kind) counter text in
     let size = envelope-size (length text) in
     let short = k .short in
     let link = on-link c l (sound-passes m s associationOnLink) in
@@ -134,8 +136,8 @@ next-counter c a m tag counter text q s t k r =
 abbrev profileAsked : ℕ → Asked
 profileAsked invoke = record { invoke = invoke; class = 7; wanted = Read 2 }
 
-profile-asked : (invoke : ℕ) → readInside 0xD0 (getProfile invoke) ≡ Asks (profileAsked invoke)
-unfolding readInside readGet optionalPart expected skipped numberAt sameBytes
+profile-asked : (invoke : ℕ) → readService Get (getProfile invoke) ≡ Asks (profileAsked invoke)
+unfolding readGet optionalPart expected skipped numberAt sameBytes
 profile-asked invoke = refl
 
 -- the rows, where they fit
@@ -186,23 +188,23 @@ unfolding nextCounter
 next-small n = omega arith
 
 -- an answer that fits opens
-answer-opens : (c : CipherClient) (a : Lent) (l : Line) (tag counter : ℕ) (wanted : List ℕ) → Asking c a l tag counter wanted → (text : List ℕ) → length text ≤ textRoom longestSent
-    → opened (dedicatedKeys (a .ak) c l) (l .title) (answerTag tag) (apduOf (toH a l c tag text)) ≡ opens (nextCounter (counters c l .sent)) text
+answer-opens : (c : CipherClient) (a : Lent) (l : Line) (kind : ServiceKind) (counter : ℕ) (wanted : List ℕ) → Asking c a l kind counter wanted → (text : List ℕ) → length text ≤ textRoom longestSent
+    → opened (dedicatedKeys (a .ak) c l) (l .title) (answerTag (dedicatedTag kind)) (apduOf (toH a l c (dedicatedTag kind) text)) ≡ opens (nextCounter (counters c l .sent)) text
 unfolding greatestApdu longestReceived
-answer-opens c a l tag counter wanted k text fits =
+answer-opens c a l kind counter wanted k text fits =
     let number = nextCounter (counters c l .sent) in
-    let request = sealedEnvelope (dedicatedKeys (a .ak) c l) (ciphering c l .peer .title) tag counter wanted in
-    let answer = sealedEnvelope (dedicatedKeys (a .ak) c l) (l .title) (answerTag tag) number text in
+    let request = sealedEnvelope (dedicatedKeys (a .ak) c l) (ciphering c l .peer .title) (dedicatedTag kind) counter wanted in
+    let answer = sealedEnvelope (dedicatedKeys (a .ak) c l) (l .title) (answerTag (dedicatedTag kind)) number text in
     let short = k .short in
-    let m = length-envelope (dedicatedKeys (a .ak) c l) (ciphering c l .peer .title) tag counter wanted in
-    let n = length-envelope (dedicatedKeys (a .ak) c l) (l .title) (answerTag tag) number text in
+    let m = length-envelope (dedicatedKeys (a .ak) c l) (ciphering c l .peer .title) (dedicatedTag kind) counter wanted in
+    let n = length-envelope (dedicatedKeys (a .ak) c l) (l .title) (answerTag (dedicatedTag kind)) number text in
     let size = envelope-size (length text) in
     let most = envelope-fits (length text) fits in
     rw (reply-apdu a (Ciphering c) request answer (k .received) (omega arith) (omega arith) (sent-fits answer (omega arith)))
-    (opens-closed (dedicatedKeys (a .ak) c l) (l .title) (answerTag tag) number text (next-small (counters c l .sent)) (omega (arith, apdu-room, longest-apdu)))
+    (opens-closed (dedicatedKeys (a .ak) c l) (l .title) (answerTag (dedicatedTag kind)) number text (next-small (counters c l .sent)) (omega (arith, apdu-room, longest-apdu)))
 
 second-row-answer : (a : Lent) (m : Model) (t : Clock) (counter invoke : ℕ) → sound m ≡ true → validClock t ≡ true → captureDue (m .body .period) t ≡ true
-    → Asking Han a (m .line) 0xD0 counter (getProfile invoke) → length (rowsData (bothRows t m)) ≤ dataRoom longestSent
+    → Asking Han a (m .line) Get counter (getProfile invoke) → length (rowsData (bothRows t m)) ≤ dataRoom longestSent
     → outcome a (twice t m)
     ≡ record {
       refusal = 0;
@@ -215,7 +217,7 @@ second-row-answer a m t counter invoke s v d k fits =
     let twice-sound : sound n ≡ true = after-sound t (afterDue t m) (after-sound t m s v d) v (still-due t m s v d) in
     let read = profile-read (selectiveIn (Ciphering Han) (m .line)) invoke (n .body) (bothRows t m) (both-rows t m) fits in
     rw (twice-due t m s v d)
-    (next-counter Han a n 0xD0 counter (getProfile invoke) (profileAsked invoke) twice-sound get k (profile-asked invoke)
+    (next-counter Han a n Get counter (getProfile invoke) (profileAsked invoke) twice-sound get k (profile-asked invoke)
     ∙ ap (λ (x : Turn). record { refusal = x .refusal; sent = toH a (m .line) Han 0xD0 (x .bytes); next = record { line = advanced Han (accepted Han counter (m .line)); body = x .body } }) read)
 
 pub second-row-read : SecondRowRead
@@ -224,7 +226,7 @@ second-row-read a m t counter invoke s v d k fits =
     let text = getAnswer invoke (granted (rowsData (bothRows t m))) in
     record {
       answer = answer;
-      found = rw answer (answer-opens Han a (m .line) 0xD0 counter (getProfile invoke) k text (read-fits invoke (granted (rowsData (bothRows t m))) fits));
+      found = rw answer (answer-opens Han a (m .line) Get counter (getProfile invoke) k text (read-fits invoke (granted (rowsData (bothRows t m))) fits));
     }
 
 -- A new meter with an associated H, at its first clock.
@@ -263,7 +265,7 @@ some-due : captureDue (someMeter .body .period) newClock ≡ true
 unfolding newMeter captureDue
 some-due = refl
 
-some-asks : Asking Han someLent someLine 0xD0 1 (getProfile 0)
+some-asks : Asking Han someLent someLine Get 1 (getProfile 0)
 unfolding tagOf within inWindow envelopeLength lengthField greatestApdu longestReceived
 some-asks =
     record {

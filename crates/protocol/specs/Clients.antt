@@ -12,7 +12,9 @@ use Rattle.model.specs.Services.{within, getService, actionService, selectiveAc
 use Rattle.model.specs.State.{Association, none, pending, associated, Peer, CipheringPeer, Line}
 use Rattle.model.specs.Soundness.{isNone}
 use Rattle.cosem.specs.declared.Tag.{Tag}
-use Rattle.cosem.specs.declared.Tag.the-variants.{Aarq, Rlrq, GetRequest, SetRequest, ActionRequest, GloActionRequest, DedGetRequest, DedSetRequest, DedActionRequest, Unknown}
+use Rattle.cosem.specs.declared.Tag.the-variants.{Aarq, Rlrq, PlainRequest, GlobalAction, DedicatedRequest, Unknown}
+use Rattle.cosem.specs.declared.ServiceKind.{ServiceKind}
+use Rattle.cosem.specs.declared.ServiceKind.the-variants.{Get, Set, Action}
 pub use Rattle.line.specs.Canonical.{agreedIn, keyIn, clientChallenge, meterChallenge}
 use Rattle.acse.specs.Clients.{ciphers}
 use Rattle.envelope.specs.Layout.{Keys, keysFrom}
@@ -81,41 +83,45 @@ isAssociated none = false
 isAssociated (pending a k c s) = false
 isAssociated (associated a k) = true
 
--- "Permitted: AARQ (60) in none, RLRQ (62) in the others; when associated GET (V: C0, H: D0) and for H ACTION (D3); while
--- pending CB"
+-- "when associated GET (V: C0, H: D0) and for H ACTION (D3)": plain from a client that does not cipher, and under the dedicated key
+-- from one that does
+abbrev pub mayAskPlain : Client → ServiceKind → Bool
+mayAskPlain c Get = not (ciphers c)
+mayAskPlain c Set = false
+mayAskPlain c Action = false
+
+abbrev pub mayAskEnclosed : Client → ServiceKind → Bool
+mayAskEnclosed c Get = ciphers c
+mayAskEnclosed c Set = false
+mayAskEnclosed c Action = ciphers c
+
+-- "Permitted: AARQ (60) in none, RLRQ (62) in the others; when associated" requests; "while pending CB"
 abbrev pub permitted : Client → Association → Tag → Bool
 permitted c x Aarq = isNone x
 permitted c x Rlrq = not (isNone x)
-permitted c x GetRequest = isAssociated x && not (ciphers c)
-permitted c x SetRequest = false
-permitted c x ActionRequest = false
-permitted c x GloActionRequest = isPending x && ciphers c
-permitted c x DedGetRequest = isAssociated x && ciphers c
-permitted c x DedSetRequest = false
-permitted c x DedActionRequest = isAssociated x && ciphers c
+permitted c x (PlainRequest k) = isAssociated x && mayAskPlain c k
+permitted c x GlobalAction = isPending x && ciphers c
+permitted c x (DedicatedRequest k) = isAssociated x && mayAskEnclosed c k
 permitted c x Unknown = false
 
--- "GET or ACTION without its agreed bit"; the other tags need none
+-- "GET or ACTION without its agreed bit"; SET has none, and the other tags need none
+abbrev pub serviceAgreed : List ℕ → ServiceKind → Bool
+serviceAgreed a Get = within getService a
+serviceAgreed a Set = true
+serviceAgreed a Action = within actionService a
+
 abbrev pub bitAgreed : List ℕ → Tag → Bool
 bitAgreed a Aarq = true
 bitAgreed a Rlrq = true
-bitAgreed a GetRequest = within getService a
-bitAgreed a SetRequest = true
-bitAgreed a ActionRequest = true
-bitAgreed a GloActionRequest = true
-bitAgreed a DedGetRequest = within getService a
-bitAgreed a DedSetRequest = true
-bitAgreed a DedActionRequest = within actionService a
+bitAgreed a (PlainRequest k) = serviceAgreed a k
+bitAgreed a GlobalAction = true
+bitAgreed a (DedicatedRequest k) = serviceAgreed a k
 bitAgreed a Unknown = true
 
 abbrev pub isUnknown : Tag → Bool
 isUnknown Aarq = false
 isUnknown Rlrq = false
-isUnknown GetRequest = false
-isUnknown SetRequest = false
-isUnknown ActionRequest = false
-isUnknown GloActionRequest = false
-isUnknown DedGetRequest = false
-isUnknown DedSetRequest = false
-isUnknown DedActionRequest = false
+isUnknown (PlainRequest k) = false
+isUnknown GlobalAction = false
+isUnknown (DedicatedRequest k) = false
 isUnknown Unknown = true

@@ -25,15 +25,17 @@ use Rattle.hdlc.specs.Layout.{ui, frameOf}
 use Rattle.hdlc.specs.Tests.{replyLlc}
 use Rattle.hdlc.specs.Reading.{readFrame}
 use Rattle.cosem.specs.declared.Tag.{Tag}
-use Rattle.cosem.specs.declared.Tag.the-variants.{Aarq, Rlrq, GetRequest, SetRequest, ActionRequest, GloActionRequest, DedGetRequest, DedSetRequest, DedActionRequest, Unknown}
+use Rattle.cosem.specs.declared.Tag.the-variants.{Aarq, Rlrq, PlainRequest, GlobalAction, DedicatedRequest, Unknown}
+use Rattle.cosem.specs.declared.ServiceKind.{ServiceKind}
+use Rattle.cosem.specs.declared.ServiceKind.the-variants.{Get, Set, Action}
 use Rattle.cosem.specs.declared.Wanted.{Wanted}
 use Rattle.cosem.specs.declared.Wanted.the-variants.{Read, ReadSelected, Invoke, InvokeWith}
 use Rattle.cosem.specs.declared.Asked.{Asked}
 use Rattle.cosem.specs.declared.Reading.{Reading}
 use Rattle.cosem.specs.declared.Reading.the-variants.{Asks, Malformed}
 use Rattle.cosem.specs.declared.Exception.the-variants.{ServiceNotAllowed, ServiceUnknown}
-use Rattle.cosem.specs.Tags.{tagIn, isRelease, releaseResponse, exceptionBytes}
-use Rattle.cosem.specs.Requests.{readGet, readAction, nameIn, requested}
+use Rattle.cosem.specs.Tags.{dedicatedTag, answerTag, tagIn, isRelease, releaseResponse, exceptionBytes}
+use Rattle.cosem.specs.Requests.{readAction, readService, nameIn, requested}
 use Rattle.acse.specs.declared.Aarq.the-variants.{Plain, Ciphered, Departs}
 use Rattle.acse.specs.declared.Aarq.{Aarq as ReadAarq}
 use Rattle.acse.specs.declared.InitiateRequest.{InitiateRequest}
@@ -138,14 +140,10 @@ abbrev pub advanced : CipherClient → Line → Line
 advanced c l = withCounters c (taken (counters c l) .counters) l
 
 -- an opened request: its answer will take the meter's next counter, granted or denied
-abbrev pub askedInside : Line → Secrets → CipherClient → Head → (tag counter : ℕ) → List ℕ → Reading → Ruling
-askedInside l a c h tag counter text Malformed = refusedMalformed h (accepted c counter l)
-askedInside l a c h tag counter text (Asks q) =
-    asks (requested (Ciphering c) (selectiveIn (Ciphering c) l) text q) (wrap (a .ak) (Ciphering c) h tag) (advanced c (accepted c counter l))
-
--- GET in D0, ACTION in D3
-unfoldable pub readInside : ℕ → List ℕ → Reading
-readInside tag text = cond (eqb tag 0xD0) (readGet text) (readAction text)
+abbrev pub askedInside : Line → Secrets → CipherClient → Head → ServiceKind → (counter : ℕ) → List ℕ → Reading → Ruling
+askedInside l a c h k counter text Malformed = refusedMalformed h (accepted c counter l)
+askedInside l a c h k counter text (Asks q) =
+    asks (requested (Ciphering c) (selectiveIn (Ciphering c) l) text q) (wrap (a .ak) (Ciphering c) h (dedicatedTag k)) (advanced c (accepted c counter l))
 
 -- The challenge.
 
@@ -216,10 +214,10 @@ challengeEnclosed l a c h s =
     admitted l c (opened (lentKeys a) (ciphering c l .peer .title) 0xCB s) (λ counter text. answeredChallenge l a c h counter text (readAction text))
 
 -- D0 and D3, under the dedicated key
-unfoldable pub requestEnclosed : Line → Secrets → CipherClient → Head → (tag : ℕ) → List ℕ → Ruling
-requestEnclosed l a c h tag s =
-    admitted l c (opened (dedicatedKeys (a .ak) c l) (ciphering c l .peer .title) tag s)
-    (λ counter text. askedInside l a c h tag counter text (readInside tag text))
+unfoldable pub requestEnclosed : Line → Secrets → CipherClient → Head → ServiceKind → List ℕ → Ruling
+requestEnclosed l a c h k s =
+    admitted l c (opened (dedicatedKeys (a .ak) c l) (ciphering c l .peer .title) (dedicatedTag k) s)
+    (λ counter text. askedInside l a c h k counter text (readService k text))
 
 -- By the tag of the APDU.
 
@@ -231,14 +229,10 @@ ofCiphering l (Ciphering c) h r = r c
 abbrev pub byTag : Line → Secrets → Client → Head → List ℕ → Tag → Ruling
 byTag l a c h s Aarq = associating l a c h s (readAarq s c (peer c l .title))
 byTag l a c h s Rlrq = released l c h s
-byTag l a c h s GetRequest = asked l a c h s (readGet s)
-byTag l a c h s GloActionRequest = ofCiphering l c h (λ k. challengeEnclosed l a k h s)
-byTag l a c h s DedGetRequest = ofCiphering l c h (λ k. requestEnclosed l a k h 0xD0 s)
-byTag l a c h s DedActionRequest = ofCiphering l c h (λ k. requestEnclosed l a k h 0xD3 s)
+byTag l a c h s (PlainRequest k) = asked l a c h s (readService k s)
+byTag l a c h s GlobalAction = ofCiphering l c h (λ d. challengeEnclosed l a d h s)
+byTag l a c h s (DedicatedRequest k) = ofCiphering l c h (λ d. requestEnclosed l a d h k s)
 -- never reached, as no state permits these tags; whatever stood here, every APDU would be ruled the same (`Unreached`, below)
-byTag l a c h s SetRequest = says tagNotPermitted (apdu h (exceptionBytes ServiceNotAllowed)) l
-byTag l a c h s ActionRequest = says tagNotPermitted (apdu h (exceptionBytes ServiceNotAllowed)) l
-byTag l a c h s DedSetRequest = says tagNotPermitted (apdu h (exceptionBytes ServiceNotAllowed)) l
 byTag l a c h s Unknown = says unknownTag (apdu h (exceptionBytes ServiceUnknown)) l
 
 -- "Tests in order: a tag other than .. D8 02 02; a tag not permitted here, or GET or ACTION without its agreed bit, D8 01 01"; then
@@ -255,9 +249,9 @@ conversed l a c h s t = tested l c h t (byTag l a c h s t)
 
 -- the tags that no client may send in any state
 pub data NeverPermitted : Tag → Type 0 where
-  set : NeverPermitted SetRequest
-  plainAction : NeverPermitted ActionRequest
-  enclosedSet : NeverPermitted DedSetRequest
+  set : NeverPermitted (PlainRequest Set)
+  plainAction : NeverPermitted (PlainRequest Action)
+  enclosedSet : NeverPermitted (DedicatedRequest Set)
   unknown : NeverPermitted Unknown
 
 -- what `byTag` says of these changes nothing. Proved in proofs/Ruled.
@@ -289,10 +283,6 @@ unfoldable pub decide : Line → Lent → Decision
 decide l a = decision (ruled l a)
 
 -- What goes out around the body's answer.
-
--- "D4, D7 (answers)" to D0 and D3
-abbrev pub answerTag : ℕ → ℕ
-answerTag tag = tag + 4
 
 -- the envelope around an answer, under the counter that was taken
 abbrev pub answerEnvelope : Line → (ak : List ℕ) → CipherClient → (tag : ℕ) → List ℕ → Envelope

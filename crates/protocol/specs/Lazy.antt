@@ -32,8 +32,10 @@ use Rattle.hdlc.specs.Reading.{readFrame}
 use Rattle.hdlc.specs.Replies.{uaFrame, dmFrame, apduFrame}
 use Rattle.cosem.specs.declared.Asked.{Asked}
 use Rattle.cosem.specs.declared.Reading.the-variants.{Asks}
-use Rattle.cosem.specs.Tags.{tagOf}
-use Rattle.cosem.specs.Requests.{requested}
+use Rattle.cosem.specs.declared.ServiceKind.{ServiceKind}
+use Rattle.cosem.specs.declared.ServiceKind.the-variants.{Get}
+use Rattle.cosem.specs.Tags.{dedicatedTag}
+use Rattle.cosem.specs.Requests.{readService, requested}
 use Rattle.acse.specs.Clients.{plainContext, cipheredContext, noSecurity, gmacSecurity}
 use Rattle.acse.specs.Initiate.{initiateResponse}
 use Rattle.acse.specs.Aare.{plainAare, cipheredAareHead}
@@ -43,9 +45,9 @@ use Rattle.envelope.specs.Layout.{Keys, keysFrom, sealedEnvelope}
 use Rattle.envelope.specs.Opening.{opens, opened}
 use Rattle.envelope.specs.Challenge.{proofValue}
 use Rattle.meter.specs.SameSecond.{nextRow}
-use Rattle.protocol.specs.Clients.{ciphering, held, peer, withPeer, linked, associates, withCounters, agreedIn, keyIn, selectiveIn, isAssociated, bitAgreed}
+use Rattle.protocol.specs.Clients.{ciphering, held, peer, withPeer, linked, associates, withCounters, agreedIn, keyIn, selectiveIn, isAssociated, serviceAgreed}
 use Rattle.protocol.specs.Rulings.{provedText}
-use Rattle.protocol.specs.Decide.{readInside, accepted, advanced, p2}
+use Rattle.protocol.specs.Decide.{accepted, advanced, p2}
 use Rattle.protocol.specs.Examples.{linkUpFrame}
 use Rattle.protocol.specs.Outcomes.{outcome, headIn, apduOf, said, Enclosed, Accepted, toH}
 
@@ -258,29 +260,29 @@ HanLetIn =
 
 -- An invented counter: every request in an envelope that is opened and read.
 
--- an associated client asks this text with this tag, in an envelope under the dedicated key, with a counter in the window
-pub record Asking (c : CipherClient) (a : Lent) (l : Line) (tag counter : ℕ) (text : List ℕ) : Type 0 where
+-- an associated client asks this text by this service, in an envelope under the dedicated key, with a counter in the window
+pub record Asking (c : CipherClient) (a : Lent) (l : Line) (k : ServiceKind) (counter : ℕ) (text : List ℕ) : Type 0 where
   pub enough : Enough a
   pub associated : isAssociated (held c l) ≡ true
-  pub agreed : bitAgreed (agreedIn (held c l)) (tagOf tag) ≡ true
+  pub agreed : serviceAgreed (agreedIn (held c l)) k ≡ true
   pub window : Accepted c counter l
   pub small : counter < 256 ^ 4
   pub short : envelopeLength (length text) ≤ greatestApdu longestReceived
-  pub received : a .received ≡ requestFrame (Ciphering c) (sealedEnvelope (requestKeys c a l) (ciphering c l .peer .title) tag counter text)
+  pub received : a .received ≡ requestFrame (Ciphering c) (sealedEnvelope (requestKeys c a l) (ciphering c l .peer .title) (dedicatedTag k) counter text)
 
 -- it has the body's answer, sealed under the meter's counter plus one, which the line then holds beside the client's
 abbrev pub NextCounter : Type 0
 NextCounter =
-    (c : CipherClient) (a : Lent) (m : Model) (tag counter : ℕ) (text : List ℕ) (q : Asked)
+    (c : CipherClient) (a : Lent) (m : Model) (k : ServiceKind) (counter : ℕ) (text : List ℕ) (q : Asked)
     → sound m ≡ true
-    → Enclosed tag
-    → Asking c a (m .line) tag counter text
-    → readInside tag text ≡ Asks q
+    → Enclosed k
+    → Asking c a (m .line) k counter text
+    → readService k text ≡ Asks q
     → outcome a m
     ≡ (let t = turned (requested (Ciphering c) (selectiveIn (Ciphering c) (m .line)) text q) (m .body) in
     record {
       refusal = t .refusal;
-      sent = toH a (m .line) c tag (t .bytes);
+      sent = toH a (m .line) c (dedicatedTag k) (t .bytes);
       next = record { line = advanced c (accepted c counter (m .line)); body = t .body };
     })
 
@@ -320,7 +322,7 @@ SecondRowRead =
     → sound m ≡ true
     → validClock t ≡ true
     → captureDue (m .body .period) t ≡ true
-    → Asking Han a (m .line) 0xD0 counter (getProfile invoke)
+    → Asking Han a (m .line) Get counter (getProfile invoke)
     → length (rowsData (bothRows t m)) ≤ dataRoom longestSent
     → RowsRead a m t counter invoke
 
@@ -334,5 +336,5 @@ pub record SecondRowHappens : Type 0 where
   pub isSound : sound meter ≡ true
   pub isValid : validClock clock ≡ true
   pub isDue : captureDue (meter .body .period) clock ≡ true
-  pub asks : Asking Han lent (meter .line) 0xD0 counter (getProfile invoke)
+  pub asks : Asking Han lent (meter .line) Get counter (getProfile invoke)
   pub fits : length (rowsData (bothRows clock meter)) ≤ dataRoom longestSent

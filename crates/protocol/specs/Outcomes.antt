@@ -23,7 +23,9 @@ use Rattle.hdlc.specs.Addresses.{addressOf}
 use Rattle.hdlc.specs.Tests.{AllPass, frameTests, clientSide}
 use Rattle.hdlc.specs.Replies.{replyFrame, uaFrame, dmFrame, apduFrame}
 use Rattle.cosem.specs.declared.Exception.{Exception}
-use Rattle.cosem.specs.Tags.{exceptionBytes}
+use Rattle.cosem.specs.declared.ServiceKind.{ServiceKind}
+use Rattle.cosem.specs.declared.ServiceKind.the-variants.{Get, Action}
+use Rattle.cosem.specs.Tags.{exceptionBytes, dedicatedTag, answerTag}
 use Rattle.acse.specs.Aare.{rejectedAare}
 use Rattle.counters.specs.Advance.{nextCounter}
 use Rattle.counters.specs.Window.{inWindow}
@@ -31,7 +33,7 @@ use Rattle.envelope.specs.Layout.{sealedEnvelope}
 use Rattle.envelope.specs.Opening.{opens, opened}
 use Rattle.protocol.specs.declared.Secrets.{Secrets}
 use Rattle.protocol.specs.Clients.{ciphering, counters as countersOf, associates, lentKeys, dedicatedKeys}
-use Rattle.protocol.specs.Decide.{accepted, advanced, secretsOf, answerTag, p2}
+use Rattle.protocol.specs.Decide.{accepted, advanced, secretsOf, p2}
 
 -- what the call comes to
 abbrev pub outcome : Lent → Model → Outcome
@@ -56,9 +58,9 @@ abbrev pub said : ℕ → List ℕ → Line → Model → Outcome
 said n bs l m = record { refusal = n; sent = bs; next = withLine l m }
 
 -- the tags of H's enclosed requests: "GET (V: C0, H: D0) and for H ACTION (D3)"
-pub data Enclosed : ℕ → Type 0 where
-  get : Enclosed 0xD0
-  action : Enclosed 0xD3
+pub data Enclosed : ServiceKind → Type 0 where
+  get : Enclosed Get
+  action : Enclosed Action
 
 -- the answer to a denied request: "result code"
 pub data Denial : List ℕ → Type 0 where
@@ -78,9 +80,9 @@ Outside c n l = inWindow (countersOf c l .accepted) n ≡ false
 pub data Opens (s : Secrets) (received : List ℕ) (l : Line) (c : CipherClient) : (tag counter : ℕ) → (text : List ℕ) → Type 0 where
   underGuk : {counter : ℕ} {text : List ℕ} → opened (lentKeys s) (ciphering c l .peer .title) 0xCB (apduOf received) ≡ opens counter text
       → Opens s received l c 0xCB counter text
-  underKey : {tag counter : ℕ} {text : List ℕ} → Enclosed tag
-      → opened (dedicatedKeys (s .ak) c l) (ciphering c l .peer .title) tag (apduOf received) ≡ opens counter text
-      → Opens s received l c tag counter text
+  underKey : {k : ServiceKind} {counter : ℕ} {text : List ℕ} → Enclosed k
+      → opened (dedicatedKeys (s .ak) c l) (ciphering c l .peer .title) (dedicatedTag k) (apduOf received) ≡ opens counter text
+      → Opens s received l c (dedicatedTag k) counter text
 
 -- that of the frame of a call
 abbrev pub Brings : Lent → Line → CipherClient → (tag counter : ℕ) → (text : List ℕ) → Type 0
@@ -115,8 +117,8 @@ pub data Row (a : Lent) (m : Model) : Outcome → Type 0 where
       → Row a m (said 12 (apduFrame (headIn a) (exceptionBytes e)) (accepted c n (m .line)) m)
   -- 13: "result code"; "for H, counters advance; a wrong proof ends the association"
   denial : {text : List ℕ} → SentBy Verification a → Denial text → Row a m (said 13 (toV a text) (m .line) m)
-  denialInside : {c : CipherClient} {text asked : List ℕ} {tag n : ℕ} → SentBy (Ciphering c) a → Enclosed tag → Brings a (m .line) c tag n asked → Accepted c n (m .line) → Denial text
-      → Row a m (said 13 (toH a (m .line) c tag text) (advanced c (accepted c n (m .line))) m)
+  denialInside : {c : CipherClient} {text asked : List ℕ} {k : ServiceKind} {n : ℕ} → SentBy (Ciphering c) a → Enclosed k → Brings a (m .line) c (dedicatedTag k) n asked → Accepted c n (m .line) → Denial text
+      → Row a m (said 13 (toH a (m .line) c (dedicatedTag k) text) (advanced c (accepted c n (m .line))) m)
   wrongProof : (invoke : ℕ) {c : CipherClient} {n : ℕ} {asked : List ℕ} → SentBy (Ciphering c) a → Brings a (m .line) c 0xCB n asked → Accepted c n (m .line)
       → Row a m (said 13
       (apduFrame (headIn a)
@@ -127,10 +129,10 @@ pub data Row (a : Lent) (m : Model) : Outcome → Type 0 where
   tells : (bs : List ℕ) (after : Line) → Row a m (said 0 (apduFrame (headIn a) bs) after m)
   grants : (q : Request) → SentBy Verification a → q .client ≡ Verification
       → Row a m (record { refusal = 0; sent = toV a (turned q (m .body) .bytes); next = record { line = m .line; body = turned q (m .body) .body } })
-  grantsInside : {c : CipherClient} {tag n : ℕ} {asked : List ℕ} (q : Request) → SentBy (Ciphering c) a → Enclosed tag → Brings a (m .line) c tag n asked → Accepted c n (m .line) → q .client ≡ Ciphering c
+  grantsInside : {c : CipherClient} {k : ServiceKind} {n : ℕ} {asked : List ℕ} (q : Request) → SentBy (Ciphering c) a → Enclosed k → Brings a (m .line) c (dedicatedTag k) n asked → Accepted c n (m .line) → q .client ≡ Ciphering c
       → Row a m (record {
         refusal = 0;
-        sent = toH a (m .line) c tag (turned q (m .body) .bytes);
+        sent = toH a (m .line) c (dedicatedTag k) (turned q (m .body) .bytes);
         next = record { line = advanced c (accepted c n (m .line)); body = turned q (m .body) .body };
       })
 
@@ -193,7 +195,7 @@ PlainUnchanged =
 -- 13: "for H, counters advance; a wrong proof ends the association"; the last accepted is the counter of the envelope that
 -- opened, a request's or a proof's; the body is as it was
 pub data Advanced (a : Lent) (l : Line) (c : CipherClient) : Line → Type 0 where
-  counters : {tag n : ℕ} {text : List ℕ} → Enclosed tag → Brings a l c tag n text → Accepted c n l → Advanced a l c (advanced c (accepted c n l))
+  counters : {k : ServiceKind} {n : ℕ} {text : List ℕ} → Enclosed k → Brings a l c (dedicatedTag k) n text → Accepted c n l → Advanced a l c (advanced c (accepted c n l))
   association : {n : ℕ} {text : List ℕ} → Brings a l c 0xCB n text → Accepted c n l → Advanced a l c (advanced c (accepted c n (associates (Ciphering c) none l)))
 
 abbrev pub DeniedBody : Type 0

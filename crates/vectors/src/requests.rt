@@ -2,6 +2,7 @@
 use cosem::Entries;
 use cosem::Exception;
 use cosem::Reading;
+use cosem::ServiceKind;
 use cosem::Tag;
 use cosem::Wanted;
 use text::field;
@@ -10,6 +11,7 @@ use text::print_bool;
 use text::print_hex;
 use text::print_number;
 use wire::End;
+ghost use Prim.Native.Nat.{_<_};
 
 // Of an APDU: G, what it is read as by GET, and A, by ACTION; T, its tag; R, whether it is the release. Of a value: V, where it
 // ends; D, the entry descriptor that it is. Of nothing: Y, the answer to a release; X, the two exceptions.
@@ -77,17 +79,24 @@ fn value_at(at: usize) {
     print_number(at as u64);
 }
 
+// The place of a service's word among those of its cover.
+fn service(k: ServiceKind) -> usize
+    ensures { λ r. ⌜ r < 3 ⌝ }
+{
+    match k {
+        ServiceKind::Get => 0,
+        ServiceKind::Set => 1,
+        ServiceKind::Action => 2,
+    }
+}
+
 fn tag(t: Tag) {
     let k = match t {
         Tag::Aarq => 0,
         Tag::Rlrq => 1,
-        Tag::GetRequest => 2,
-        Tag::SetRequest => 3,
-        Tag::ActionRequest => 4,
-        Tag::GloActionRequest => 5,
-        Tag::DedGetRequest => 6,
-        Tag::DedSetRequest => 7,
-        Tag::DedActionRequest => 8,
+        Tag::PlainRequest(k) => 2 + service(k),
+        Tag::GlobalAction => 5,
+        Tag::DedicatedRequest(k) => 6 + service(k),
         Tag::Unknown => 9,
     };
     print(field(

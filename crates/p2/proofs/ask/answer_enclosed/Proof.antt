@@ -3,6 +3,7 @@ use mathlib.Core.Path.{_≡_, sym, ap, _∙_}
 use native.Mathlib.Omega.{arith}
 use Rattle.model.proofs.LimitFacts.{reply-room, text-room}
 use Rattle.model.proofs.ListLaws.{both}
+use Rattle.cosem.specs.Tags.{dedicatedTag}
 use Rattle.counters.specs.declared.Taken.{Taken}
 use Rattle.counters.specs.Advance.{taken}
 use Rattle.counters.specs.Window.{accepting}
@@ -23,26 +24,22 @@ answer-requires : tie.Need-answer-requires
 answer-requires c κs =
     let s = c .before .before .before .before .before .before .before .before .before .before in
     let m = s .args .meter in (
-      both (bodySound (bodyOf (m .body))) (lineSound (lineOf (m .line))) (sym (sound-is m) ∙ s .pre .0 .0) .0,
-      omega (arith, reply-room, text-room, s .pre .0 .1),
+      both (bodySound (bodyOf (m .body))) (lineSound (lineOf (m .line))) (sym (sound-is m) ∙ s .pre .0) .0,
+      omega (arith, reply-room, text-room, s .pre .1),
     )
-
-add-send-enclosed : tie.Need-add-send-enclosed
-add-send-enclosed c =
-    let s = c .before .before .before .before .before .before .before .before .before .before .before .before .before .before .before .before in
-    omega (arith, s .pre .1)
 
 send-enclosed-requires : tie.Need-send-enclosed-requires
 send-enclosed-requires c κs =
-    let at-answer = c .before .before .before .before .before in
+    let at-answer = c .before .before .before .before .before .before in
     let s = at-answer .before .before .before .before .before .before .before .before .before .before .before in
-    let t = at-answer .answer .ensures in (omega (arith, t .wrote .kept, s .pre .0 .1), answer-short _ _ 20 t)
+    let t = at-answer .answer .ensures in (omega (arith, t .wrote .kept, s .pre .1), answer-short _ _ 20 t)
 
 returns : tie.Need-returns
 unfolding lineOf taken
 returns c lent e =
     let at-send-enclosed = c .before .before .before in
-    let at-answer = at-send-enclosed .before .before .before .before .before .before in
+    let at-answer-tag = at-send-enclosed .before .before in
+    let at-answer = at-answer-tag .before .before .before .before .before in
     let at-is-selective = at-answer .before .before in
     let at-with-counters = at-is-selective .before in
     let at-take = at-with-counters .before in
@@ -64,7 +61,7 @@ returns c lent e =
     let sent = ap (λ (n : Taken). n .number) number ∙ ap (λ (n : Counters). n .sent) (sym (counted-counters k (taken pair .counters) l)) in
     rw (sym (at-is-selective .is-selective .ensures), advanced-is k (a .counter) l)
     (serves _ _ (a .meter) _ _ next (t .refusal) (t .body)
-    (enclosed-sent _ _ 20 t k (lent .ak) _ (a .head) (a .tag) _ _ after (omega arith) keys title sent (at-send-enclosed .send-enclosed .ensures))
+    (enclosed-sent _ _ 20 t k (lent .ak) _ (a .head) (dedicatedTag (a .kind)) _ _ after (omega arith) keys title sent (rw (at-answer-tag .answer-tag .ensures) at (at-send-enclosed .send-enclosed .ensures)))
     (counted-same k (taken pair .counters) l))
 
 pub answer-enclosed-spec : {M : Type 1} → statement M
@@ -78,7 +75,7 @@ answer-enclosed-spec =
     (λ c κs. search needs)
     answer-requires
     (λ c. search needs)
-    add-send-enclosed
+    (λ c κs. search needs)
     send-enclosed-requires
     (λ c. search needs)
     returns)

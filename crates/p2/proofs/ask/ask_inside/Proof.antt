@@ -11,18 +11,18 @@ returns : tie.Need-returns
 returns c a e =
     let at-answer-enclosed = c .before .before in
     let at-reading = at-answer-enclosed .before .before .before in
-    let at-read-inside = at-reading .before .before in
-    rw (sym (at-read-inside .read-inside .ensures) ∙ at-reading .reading .given .1) (at-answer-enclosed .answer-enclosed .ensures a e)
+    let at-read-service = at-reading .before .before in
+    rw (sym (at-read-service .read-service .ensures) ∙ at-reading .reading .given .1) (at-answer-enclosed .answer-enclosed .ensures a e)
 
 returns-2 : tie.Need-returns-2
 returns-2 c a e =
     let at-except = c .before .before .before in
     let at-accept-counter = at-except .before .before in
     let at-enum-told = at-accept-counter .before in
-    let at-read-inside = at-enum-told .before .before in
-    let s = at-read-inside .before .before .before in
+    let at-read-service = at-enum-told .before .before in
+    let s = at-read-service .before .before .before in
     let next = at-accept-counter .accept-counter .ensures in
-    rw (c .joined .ensures, sym (at-read-inside .read-inside .ensures) ∙ at-enum-told .enum-told .given .1, sym next)
+    rw (c .joined .ensures, sym (at-read-service .read-service .ensures) ∙ at-enum-told .enum-told .given .1, sym next)
     (at-except .except .ensures (s .args .meter .line) malformedApdu refl (λ d. accepted-same (s .args .client) (s .args .counter) (lineOf (s .args .meter .line)) next d) (s .args .meter .body))
 
 pub ask-inside-spec : {M : Type 1} → statement M
