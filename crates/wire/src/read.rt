@@ -1,12 +1,11 @@
 // Readers: each public one says what stands at `at`, for every slice and every position, and requires nothing.
 use crate::End;
 use crate::Field;
-use crate::write::put_all;
 ghost use mathlib.Core.Path.{_≡_};
 ghost use Prim.Native.Nat.{_+_, _≤_, _<_};
 ghost use lib.ListN.{length, take, drop};
 ghost use Rattle.wire.specs.Numbers.{numberHigh};
-ghost use Rattle.wire.specs.Reading.{atLeast, expected, Filled, lengthAt, numberAt, sameBytes, skipped};
+ghost use Rattle.wire.specs.Reading.{atLeast, expected, filled, Filled, lengthAt, numberAt, sameBytes, skipped};
 
 // Whether two slices hold the same bytes.
 pub fn same(a: &[u8], b: &[u8]) -> bool
@@ -56,19 +55,26 @@ pub fn expect_at(s: &[u8], at: usize, b: &[u8]) -> End
     }
 }
 
-// Fills `out` with the bytes at `at`, where there are as many; else leaves it as it was. The position after them.
+// Fills `out` with the bytes at `at`, where there are as many; else leaves it as it was.
+fn fill(s: &[u8], at: usize, out: &mut [u8])
+    ensures { λ r. ⌜ now (out .exit) ≡ filled (now (s .entry)) at (now (out .entry)) ⌝ }
+{
+    let End::At(_) = skip_at(s, at, out.len()) else {
+        return;
+    };
+    let mut i = 0;
+    while i < out.len() {
+        out[i] = s[at + i];
+        i += 1;
+    }
+}
+
+// The same, and the position after them.
 pub fn fill_at(s: &[u8], at: usize, out: &mut [u8]) -> End
     ensures { λ r. ⌜ Filled (now (s .entry)) at (now (out .entry)) (now (out .exit)) r ⌝ }
 {
-    if s.len() < out.len() {
-        return End::Bad;
-    }
-    if s.len() - out.len() < at {
-        return End::Bad;
-    }
-    let next = at + out.len();
-    put_all(out, 0, &s[at..next]);
-    End::At(next)
+    fill(s, at, out);
+    skip_at(s, at, out.len())
 }
 
 // A byte.

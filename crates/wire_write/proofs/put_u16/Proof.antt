@@ -1,8 +1,8 @@
--- `wire::write::put_u16` meets its contract: its two writes join.
+-- `wire_write::put_u16` meets its contract: its two writes join.
 use borrow.Author.Needs.{needs}
-use Rattle.wire.proofs.WroteLaws.{then}
-use Rattle.wire.proofs.write.put_u16.Statement.{statement}
-use Rattle.wire.proofs.write.put_u16.Tie as tie
+use Rattle.wire_write.proofs.WroteLaws.{then}
+use Rattle.wire_write.proofs.put_u16.Statement.{statement}
+use Rattle.wire_write.proofs.put_u16.Tie as tie
 
 returns : tie.Need-returns
 returns c = then (c .before .before .before .before .before .before .put .ensures) (c .before .before .put2 .ensures)

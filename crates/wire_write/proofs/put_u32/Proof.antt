@@ -1,8 +1,8 @@
--- `wire::write::put_u32` meets its contract: its four writes join.
+-- `wire_write::put_u32` meets its contract: its four writes join.
 use borrow.Author.Needs.{needs}
-use Rattle.wire.proofs.WroteLaws.{then}
-use Rattle.wire.proofs.write.put_u32.Statement.{statement}
-use Rattle.wire.proofs.write.put_u32.Tie as tie
+use Rattle.wire_write.proofs.WroteLaws.{then}
+use Rattle.wire_write.proofs.put_u32.Statement.{statement}
+use Rattle.wire_write.proofs.put_u32.Tie as tie
 
 returns : tie.Need-returns
 returns c =

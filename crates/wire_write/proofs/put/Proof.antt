@@ -1,8 +1,8 @@
--- `wire::write::put` meets its contract.
+-- `wire_write::put` meets its contract.
 use borrow.Author.Needs.{needs}
-use Rattle.wire.proofs.WroteLaws.{stored}
-use Rattle.wire.proofs.write.put.Statement.{statement}
-use Rattle.wire.proofs.write.put.Tie as tie
+use Rattle.wire_write.proofs.WroteLaws.{stored}
+use Rattle.wire_write.proofs.put.Statement.{statement}
+use Rattle.wire_write.proofs.put.Tie as tie
 
 returns : tie.Need-returns
 returns c = stored _ _ _ (c .pre)

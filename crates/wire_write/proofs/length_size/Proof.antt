@@ -1,7 +1,7 @@
--- `wire::write::length_size` meets its contract: by the three forms.
+-- `wire_write::length_size` meets its contract: by the three forms.
 use Rattle.wire.proofs.LengthLaws.{field-one, field-two, field-three}
-use Rattle.wire.proofs.write.length_size.Statement.{statement}
-use Rattle.wire.proofs.write.length_size.Tie as tie
+use Rattle.wire_write.proofs.length_size.Statement.{statement}
+use Rattle.wire_write.proofs.length_size.Tie as tie
 
 returns : tie.Need-returns
 returns c = rw (field-one _ (c .if1 .taken))

@@ -1,11 +1,12 @@
-// Writers: each puts its bytes from `at` on, leaves every other byte as it was, and gives the place after them.
-// A writer requires room for its bytes, and nothing else but a length that two bytes can hold.
+// Bytes written into lent slices. A writer puts its bytes from `at` on, leaves every other byte as it was, and gives the place
+// after them; it requires room for its bytes, and nothing else but a length that two bytes can hold. What writing means stands
+// in specs/ of the crate wire; proofs/ has the laws for callers.
 ghost use mathlib.Core.Path.{_≡_};
 ghost use mathlib.Core.List.{[], _∷_};
 ghost use Prim.Native.Nat.{_+_, _≤_};
 ghost use lib.ListN.{drop, length, take};
 ghost use Rattle.wire.specs.Wrote.{Wrote, WroteArray};
 ghost use Rattle.wire.specs.Numbers.{highFirst, lowFirst, lengthField};
 
 // One byte.
 pub fn put(out: &mut [u8], at: usize, b: u8) -> usize

@@ -1,12 +1,13 @@
--- `wire::write::move_down` meets its contract. At one place nothing is to be done. The invariant: the first i bytes are moved.
+-- `wire_write::move_down` meets its contract. At one place nothing is to be done. The invariant: the first i bytes are moved.
 use mathlib.Core.Path.{_≡_, refl}
 use Prim.Native.Nat.{_≤_, _-_}
 use lib.ListN.{length, take, drop, length-set}
 use lib.Seq.{paste, paste-zero}
 use borrow.Author.Needs.{needs}
-use Rattle.wire.proofs.WroteLaws.{length-stretch, stands, copied, moved-on}
-use Rattle.wire.proofs.write.move_down.Statement.{statement}
-use Rattle.wire.proofs.write.move_down.Tie as tie
+use Rattle.wire.proofs.PartLaws.{length-stretch}
+use Rattle.wire_write.proofs.WroteLaws.{stands, copied, moved-on}
+use Rattle.wire_write.proofs.move_down.Statement.{statement}
+use Rattle.wire_write.proofs.move_down.Tie as tie
 
 abbrev Inv-loop : tie.InvT-loop
 Inv-loop out₀ from to n i₀ out i = (i ≤ n) × (length out ≡ length out₀) × (out ≡ paste out₀ to (take n (drop from out₀)) i)

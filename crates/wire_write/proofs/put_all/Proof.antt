@@ -1,13 +1,13 @@
--- `wire::write::put_all` meets its contract. The invariant: the first i bytes of s are copied.
+-- `wire_write::put_all` meets its contract. The invariant: the first i bytes of s are copied.
 use mathlib.Core.Path.{_≡_, refl}
 use Prim.Native.Nat.{_≤_, _-_}
 use native.Mathlib.Numerals.{add-one}
 use lib.ListN.{length, length-set}
 use lib.Seq.{paste, paste-zero, paste-suc}
 use borrow.Author.Needs.{needs}
-use Rattle.wire.proofs.WroteLaws.{copied}
-use Rattle.wire.proofs.write.put_all.Statement.{statement}
-use Rattle.wire.proofs.write.put_all.Tie as tie
+use Rattle.wire_write.proofs.WroteLaws.{copied}
+use Rattle.wire_write.proofs.put_all.Statement.{statement}
+use Rattle.wire_write.proofs.put_all.Tie as tie
 
 abbrev Inv-loop : tie.InvT-loop
 Inv-loop out₀ at s i₀ out i = (i ≤ length s) × (length out ≡ length out₀) × (out ≡ paste out₀ at s i)

@@ -1,12 +1,12 @@
--- `wire::write::put_length` meets its contract: by the three forms.
+-- `wire_write::put_length` meets its contract: by the three forms.
 use mathlib.Core.Path.{ap}
 use native.Mathlib.Omega.{arith}
 use lib.ListN.{length}
 use borrow.Author.Needs.{needs}
 use Rattle.wire.proofs.LengthLaws.{field-one, field-two, field-three}
-use Rattle.wire.proofs.WroteLaws.{then}
-use Rattle.wire.proofs.write.put_length.Statement.{statement}
-use Rattle.wire.proofs.write.put_length.Tie as tie
+use Rattle.wire_write.proofs.WroteLaws.{then}
+use Rattle.wire_write.proofs.put_length.Statement.{statement}
+use Rattle.wire_write.proofs.put_length.Tie as tie
 
 put-requires : tie.Need-put-requires
 put-requires c κs = omega (arith, ap length (field-one _ (c .before .if1 .taken)))
