@@ -19,7 +19,7 @@ pub fn put_rejected(out: &mut [u8], at: usize, client: Client) -> usize
     ensures { λ r. ⌜ WroteArray 33 (now (out .entry)) at (now (out .exit)) r (rejectedAare client) ⌝ }
 {
     let information = put_outcome(out, at, 0x1F, client, 1, 13);
-    wire::put_all(out, information, b"\xBE\x06\x04\x04\x0E\x01\x0A\x00")
+    wire_write::put_all(out, information, b"\xBE\x06\x04\x04\x0E\x01\x0A\x00")
 }
 
 // The AARE that accepts a client that does not cipher.
@@ -36,7 +36,7 @@ pub fn put_accepted_plain(
     let responding = put_outcome(out, at, 0x3E, client, 0, 0);
     let mechanism = put_title(out, responding, title);
     let information = put_mechanism(out, mechanism, client);
-    let response = wire::put_all(out, information, b"\xBE\x10\x04\x0E");
+    let response = wire_write::put_all(out, information, b"\xBE\x10\x04\x0E");
     put_initiate_response(out, response, agreed)
 }
 
@@ -53,11 +53,11 @@ pub fn put_accepted_head(
 {
     let responding = put_outcome(out, at, 0x61, client, 0, 14);
     let requirements = put_title(out, responding, title);
-    let mechanism = wire::put_all(out, requirements, b"\x88\x02\x07\x80");
+    let mechanism = wire_write::put_all(out, requirements, b"\x88\x02\x07\x80");
     let value = put_mechanism(out, mechanism, client);
-    let lent = wire::put_all(out, value, b"\xAA\x0A\x80\x08");
-    let information = wire::put_8(out, lent, challenge);
-    wire::put_all(out, information, b"\xBE\x23\x04\x21")
+    let lent = wire_write::put_all(out, value, b"\xAA\x0A\x80\x08");
+    let information = wire_write::put_8(out, lent, challenge);
+    wire_write::put_all(out, information, b"\xBE\x23\x04\x21")
 }
 
 // The initiate response.
@@ -65,10 +65,10 @@ pub fn put_initiate_response(out: &mut [u8], at: usize, agreed: &[u8; 3]) -> usi
     requires { ⌜ at + 14 ≤ length (now out) ⌝ }
     ensures { λ r. ⌜ WroteArray 14 (now (out .entry)) at (now (out .exit)) r (initiateResponse (now (agreed .entry))) ⌝ }
 {
-    let services = wire::put_all(out, at, b"\x08\x00\x06\x5F\x1F\x04\x00");
-    let size = wire::put_all(out, services, agreed);
-    let name = wire::put_u16(out, size, TOLD_SIZE);
-    wire::put_all(out, name, b"\x00\x07")
+    let services = wire_write::put_all(out, at, b"\x08\x00\x06\x5F\x1F\x04\x00");
+    let size = wire_write::put_all(out, services, agreed);
+    let name = wire_write::put_u16(out, size, TOLD_SIZE);
+    wire_write::put_all(out, name, b"\x00\x07")
 }
 
 // What every AARE begins with.
@@ -83,9 +83,9 @@ fn put_outcome(
     requires { ⌜ at + 25 ≤ length (now out) ⌝ }
     ensures { λ r. ⌜ WroteArray 25 (now (out .entry)) at (now (out .exit)) r (outcome size client result diagnostic) ⌝ }
 {
-    let name = wire::put_all(out, at, &[0x61, size, 0xA1, 9, 6, 7]);
+    let name = wire_write::put_all(out, at, &[0x61, size, 0xA1, 9, 6, 7]);
     let results = put_name(out, name, &context_name(client));
-    wire::put_all(
+    wire_write::put_all(
         out,
         results,
         &[0xA2, 3, 2, 1, result, 0xA3, 5, 0xA1, 3, 2, 1, diagnostic],
@@ -97,8 +97,8 @@ fn put_title(out: &mut [u8], at: usize, title: &[u8; 8]) -> usize
     requires { ⌜ at + 12 ≤ length (now out) ⌝ }
     ensures { λ r. ⌜ WroteArray 12 (now (out .entry)) at (now (out .exit)) r (titleField (now (title .entry))) ⌝ }
 {
-    let held = wire::put_all(out, at, b"\xA4\x0A\x04\x08");
-    wire::put_8(out, held, title)
+    let held = wire_write::put_all(out, at, b"\xA4\x0A\x04\x08");
+    wire_write::put_8(out, held, title)
 }
 
 // The mechanism name.
@@ -106,7 +106,7 @@ fn put_mechanism(out: &mut [u8], at: usize, client: Client) -> usize
     requires { ⌜ at + 9 ≤ length (now out) ⌝ }
     ensures { λ r. ⌜ WroteArray 9 (now (out .entry)) at (now (out .exit)) r (mechanismField client) ⌝ }
 {
-    let name = wire::put_all(out, at, b"\x89\x07");
+    let name = wire_write::put_all(out, at, b"\x89\x07");
     put_name(out, name, &mechanism_name(client))
 }
 
@@ -115,5 +115,5 @@ fn put_name(out: &mut [u8], at: usize, name: &[u8; 7]) -> usize
     requires { ⌜ at + 7 ≤ length (now out) ⌝ }
     ensures { λ r. ⌜ WroteArray 7 (now (out .entry)) at (now (out .exit)) r (now (name .entry)) ⌝ }
 {
-    wire::put_all(out, at, name)
+    wire_write::put_all(out, at, name)
 }

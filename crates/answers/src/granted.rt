@@ -50,8 +50,8 @@ fn put_plain(out: &mut [u8], at: usize, x: Plain, body: BodyState) -> usize
         Plain::Time => put_time(out, at, clock),
         Plain::Date => put_date(out, at, clock),
         Plain::Device => {
-            let a = wire::put_all(out, at, b"\x0A\x10");
-            wire::put_16(out, a, &body.device)
+            let a = wire_write::put_all(out, at, b"\x0A\x10");
+            wire_write::put_16(out, a, &body.device)
         }
     }
 }

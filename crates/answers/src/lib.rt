@@ -135,7 +135,7 @@ fn answer_get(
         }
         Outcome::Denied(code) => {
             let a = put_head(out, at, 0xC4, query.invoke, 0x01);
-            let b = wire::put(out, a, code);
+            let b = wire_write::put(out, a, code);
             Answered {
                 refusal: 13,
                 next: b,
@@ -162,7 +162,7 @@ fn answer_action(
     match o {
         Outcome::Granted(_) => {
             let a = put_head(out, at, 0xC7, query.invoke, 0x00);
-            let b = wire::put(out, a, 0x00);
+            let b = wire_write::put(out, a, 0x00);
             let next = results::after_method(body, found);
             Answered {
                 refusal: 0,
@@ -172,7 +172,7 @@ fn answer_action(
         }
         Outcome::Denied(code) => {
             let a = put_head(out, at, 0xC7, query.invoke, code);
-            let b = wire::put(out, a, 0x00);
+            let b = wire_write::put(out, a, 0x00);
             Answered {
                 refusal: 13,
                 next: b,
@@ -187,8 +187,8 @@ fn put_head(out: &mut [u8], at: usize, tag: u8, invoke: u8, fourth: u8) -> usize
     requires { ⌜ at + 4 ≤ length (now out) ⌝ }
     ensures { λ r. ⌜ Wrote (now (out .entry)) at (now (out .exit)) r (tag ∷ 0x01 ∷ invoke ∷ fourth ∷ []) ⌝ }
 {
-    let a = wire::put(out, at, tag);
-    let b = wire::put(out, a, 0x01);
-    let c = wire::put(out, b, invoke);
-    wire::put(out, c, fourth)
+    let a = wire_write::put(out, at, tag);
+    let b = wire_write::put(out, a, 0x01);
+    let c = wire_write::put(out, b, invoke);
+    wire_write::put(out, c, fourth)
 }

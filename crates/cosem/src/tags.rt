@@ -75,7 +75,7 @@ pub fn put_release(out: &mut [u8], at: usize) -> usize
     requires { ⌜ at + 5 ≤ length (now out) ⌝ }
     ensures { λ r. ⌜ Wrote (now (out .entry)) at (now (out .exit)) r releaseResponse ⌝ }
 {
-    wire::put_all(out, at, b"\x63\x03\x80\x01\x00")
+    wire_write::put_all(out, at, b"\x63\x03\x80\x01\x00")
 }
 
 // An exception.
@@ -84,7 +84,7 @@ pub fn put_exception(out: &mut [u8], at: usize, e: Exception) -> usize
     ensures { λ r. ⌜ Wrote (now (out .entry)) at (now (out .exit)) r (exceptionBytes e) ⌝ }
 {
     match e {
-        Exception::ServiceNotAllowed => wire::put_all(out, at, b"\xD8\x01\x01"),
-        Exception::ServiceUnknown => wire::put_all(out, at, b"\xD8\x02\x02"),
+        Exception::ServiceNotAllowed => wire_write::put_all(out, at, b"\xD8\x01\x01"),
+        Exception::ServiceUnknown => wire_write::put_all(out, at, b"\xD8\x02\x02"),
     }
 }

@@ -70,7 +70,7 @@ fn seal(k: ReadyKey, v: [u8; 12], aad: &[u8], plain: &[u8])
     requires { ⌜ length (now plain) ≤ 64 ⌝ }
 {
     let mut buf = [0x5au8; 128];
-    let e = wire::put_all(&mut buf, 5, plain);
+    let e = wire_write::put_all(&mut buf, 5, plain);
     if gcm::seal_part(k, v, aad, &mut buf, 5, e) {
         sealed(k, v, aad, &buf, e);
     }

@@ -15,16 +15,16 @@ pub fn put_name(out: &mut [u8], at: usize, name: Name) -> usize
     requires { ⌜ at + 8 ≤ length (now out) ⌝ }
     ensures { λ r. ⌜ Wrote (now (out .entry)) at (now (out .exit)) r (nameData name) ⌝ }
 {
-    let a = wire::put_all(out, at, b"\x09\x06");
-    wire::put_6(out, a, &name.bytes)
+    let a = wire_write::put_all(out, at, b"\x09\x06");
+    wire_write::put_6(out, a, &name.bytes)
 }
 
 pub fn put_clock(out: &mut [u8], at: usize, clock: Clock) -> usize
     requires { ⌜ at + 14 ≤ length (now out) ⌝ }
     ensures { λ r. ⌜ WroteArray 14 (now (out .entry)) at (now (out .exit)) r (clockData clock) ⌝ }
 {
-    let a = wire::put_all(out, at, b"\x09\x0C");
-    wire::put_12(out, a, &clock.bytes)
+    let a = wire_write::put_all(out, at, b"\x09\x0C");
+    wire_write::put_12(out, a, &clock.bytes)
 }
 
 pub fn put_time(out: &mut [u8], at: usize, clock: Clock) -> usize
@@ -32,8 +32,8 @@ pub fn put_time(out: &mut [u8], at: usize, clock: Clock) -> usize
     ensures { λ r. ⌜ Wrote (now (out .entry)) at (now (out .exit)) r (0x09 ∷ 0x04 ∷ take 4 (drop 5 (clock .bytes))) ⌝ }
 {
     let bytes = clock.bytes;
-    let a = wire::put_all(out, at, b"\x09\x04");
-    wire::put_all(out, a, &bytes[5..9])
+    let a = wire_write::put_all(out, at, b"\x09\x04");
+    wire_write::put_all(out, a, &bytes[5..9])
 }
 
 pub fn put_date(out: &mut [u8], at: usize, clock: Clock) -> usize
@@ -41,32 +41,32 @@ pub fn put_date(out: &mut [u8], at: usize, clock: Clock) -> usize
     ensures { λ r. ⌜ Wrote (now (out .entry)) at (now (out .exit)) r (0x09 ∷ 0x05 ∷ take 5 (clock .bytes)) ⌝ }
 {
     let bytes = clock.bytes;
-    let a = wire::put_all(out, at, b"\x09\x05");
-    wire::put_all(out, a, &bytes[0..5])
+    let a = wire_write::put_all(out, at, b"\x09\x05");
+    wire_write::put_all(out, a, &bytes[0..5])
 }
 
 pub fn put_unsigned16(out: &mut [u8], at: usize, n: u16) -> usize
     requires { ⌜ at + 3 ≤ length (now out) ⌝ }
     ensures { λ r. ⌜ Wrote (now (out .entry)) at (now (out .exit)) r (unsigned16 n) ⌝ }
 {
-    let a = wire::put(out, at, 0x12);
-    wire::put_u16(out, a, n)
+    let a = wire_write::put(out, at, 0x12);
+    wire_write::put_u16(out, a, n)
 }
 
 pub fn put_unsigned32(out: &mut [u8], at: usize, n: u32) -> usize
     requires { ⌜ at + 5 ≤ length (now out) ⌝ }
     ensures { λ r. ⌜ Wrote (now (out .entry)) at (now (out .exit)) r (unsigned32 n) ⌝ }
 {
-    let a = wire::put(out, at, 0x06);
-    wire::put_u32(out, a, n)
+    let a = wire_write::put(out, at, 0x06);
+    wire_write::put_u32(out, a, n)
 }
 
 pub fn put_scaler_unit(out: &mut [u8], at: usize, scaler: u8, unit: u8) -> usize
     requires { ⌜ at + 6 ≤ length (now out) ⌝ }
     ensures { λ r. ⌜ Wrote (now (out .entry)) at (now (out .exit)) r (scalerUnit scaler unit) ⌝ }
 {
-    let a = wire::put_all(out, at, b"\x02\x02\x0F");
-    let b = wire::put(out, a, scaler);
-    let c = wire::put(out, b, 0x16);
-    wire::put(out, c, unit)
+    let a = wire_write::put_all(out, at, b"\x02\x02\x0F");
+    let b = wire_write::put(out, a, scaler);
+    let c = wire_write::put(out, b, 0x16);
+    wire_write::put(out, c, unit)
 }

@@ -59,7 +59,7 @@ pub fn put_proof(
     let n = nonce(title, counter);
     let data = proof_data(keys, challenge);
     let t = gcm::gmac(key, n, &data);
-    let a = wire::put_all(out, at, b"\x09\x11\x10");
-    let b = wire::put_u32(out, a, counter);
-    wire::put_12(out, b, &t)
+    let a = wire_write::put_all(out, at, b"\x09\x11\x10");
+    let b = wire_write::put_u32(out, a, counter);
+    wire_write::put_12(out, b, &t)
 }

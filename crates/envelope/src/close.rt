@@ -15,7 +15,7 @@ pub fn head_size(n: usize) -> usize
     requires { ⌜ countedLength n ≤ 65535 ⌝ }
     ensures { λ r. ⌜ r ≡ headSize n ⌝ }
 {
-    6 + wire::length_size(n + 17)
+    6 + wire_write::length_size(n + 17)
 }
 
 // Closes the envelope around the `n` bytes of text that stand in `out` behind its head, which begins at `at`.
@@ -37,7 +37,7 @@ pub fn close_envelope(
     let v = nonce(title, counter);
     let data = associated_data(keys);
     let t = gcm::seal(key, v, &data, &mut out[start..end]);
-    wire::put_12(out, end, &t)
+    wire_write::put_12(out, end, &t)
 }
 
 // What stands before a text of `n` bytes.
@@ -45,8 +45,8 @@ fn put_head(out: &mut [u8], at: usize, tag: u8, counter: u32, n: usize) -> usize
     requires { ⌜ (countedLength n ≤ 65535) × (at + headSize n ≤ length (now out)) ⌝ }
     ensures { λ r. ⌜ Wrote (now (out .entry)) at (now (out .exit)) r (head tag counter n) ⌝ }
 {
-    let a = wire::put(out, at, tag);
-    let b = wire::put_length(out, a, n + 17);
-    let c = wire::put(out, b, 0x30);
-    wire::put_u32(out, c, counter)
+    let a = wire_write::put(out, at, tag);
+    let b = wire_write::put_length(out, a, n + 17);
+    let c = wire_write::put(out, b, 0x30);
+    wire_write::put_u32(out, c, counter)
 }

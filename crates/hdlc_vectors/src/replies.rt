@@ -40,7 +40,7 @@ pub fn data(s: &[u8]) {
     let n = text::bytes(s, 3, &mut apdu);
     let mut out = [0xAAu8; 24];
     let start = hdlc_write::put_llc(&mut out);
-    let end = wire::put_all(&mut out, start, first(&apdu, n));
+    let end = wire_write::put_all(&mut out, start, first(&apdu, n));
     let count = hdlc_write::put_data(&mut out, received(s, 0x13), end);
     show(&out, count);
 }

@@ -10,7 +10,7 @@ use Rattle.fcs.specs.Check.{checkOf}
 use Rattle.wire.specs.Numbers.{lowFirst}
 use Rattle.wire.specs.Reading.{part}
 use Rattle.wire.specs.Wrote.{Wrote}
-use Rattle.wire.proofs.WroteLaws.{then, stands, there, untouched, past, whole}
+use Rattle.wire_write.proofs.WroteLaws.{then, stands, there, untouched, past, whole}
 use Rattle.hdlc.specs.Layout.{flag, ui, headBytes, checked, flagged, frameOf}
 use Rattle.hdlc.specs.Tests.{replyLlc}
 use Rattle.hdlc.specs.Replies.{apduFrame, dataFrame, Sent}

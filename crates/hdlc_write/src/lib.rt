@@ -37,9 +37,9 @@ pub fn put_frmr(out: &mut [u8], head: Head, test: FrameTest) -> usize
     requires { ⌜ 14 ≤ length (now out) ⌝ }
     ensures { λ r. ⌜ Sent (frmrFrame head test) (now (out .entry)) (now (out .exit)) r ⌝ }
 {
-    let second = wire::put(out, 8, head.control);
-    let third = wire::put(out, second, 0x00);
-    let end = wire::put(out, third, reject_code(test));
+    let second = wire_write::put(out, 8, head.control);
+    let third = wire_write::put(out, second, 0x00);
+    let end = wire_write::put(out, third, reject_code(test));
     put_around(out, head, 0x97, end)
 }
 
@@ -48,7 +48,7 @@ pub fn put_llc(out: &mut [u8]) -> usize
     requires { ⌜ 11 ≤ length (now out) ⌝ }
     ensures { λ r. ⌜ Wrote (now (out .entry)) 8 (now (out .exit)) r replyLlc ⌝ }
 {
-    wire::put_all(out, 8, b"\xE6\xE7\x00")
+    wire_write::put_all(out, 8, b"\xE6\xE7\x00")
 }
 
 // The data frame around the information that stands from byte 8 up to `end`.
@@ -73,7 +73,7 @@ fn put_plain(out: &mut [u8], head: Head, control: u8) -> usize
 {
     let fcs = put_head(out, head, control, 7);
     let last = put_check(out, fcs);
-    wire::put(out, last, 0x7E)
+    wire_write::put(out, last, 0x7E)
 }
 
 // A frame around the information that stands from byte 8 up to `end`.
@@ -84,7 +84,7 @@ fn put_around(out: &mut [u8], head: Head, control: u8, end: usize) -> usize
     let hcs = put_head(out, head, control, end + 1);
     put_check(out, hcs);
     let last = put_check(out, end);
-    wire::put(out, last, 0x7E)
+    wire_write::put(out, last, 0x7E)
 }
 
 // The flag, the format with the length, the addresses exchanged, the control.
@@ -92,11 +92,11 @@ fn put_head(out: &mut [u8], head: Head, control: u8, length: usize) -> usize
     requires { ⌜ (6 ≤ lib.ListN.length (now out)) × (length < 0x800) ⌝ }
     ensures { λ r. ⌜ Wrote (now (out .entry)) 0 (now (out .exit)) r (flag ∷ headBytes length (head .source) (head .destination) control) ⌝ }
 {
-    let format = wire::put(out, 0, 0x7E);
-    let destination = wire::put_u16(out, format, 0xA000 + (length as u16));
-    let source = wire::put(out, destination, head.source);
-    let place = wire::put(out, source, head.destination);
-    wire::put(out, place, control)
+    let format = wire_write::put(out, 0, 0x7E);
+    let destination = wire_write::put_u16(out, format, 0xA000 + (length as u16));
+    let source = wire_write::put(out, destination, head.source);
+    let place = wire_write::put(out, source, head.destination);
+    wire_write::put(out, place, control)
 }
 
 // The check of the bytes after the flag up to `at`, put there, low byte first.
@@ -105,5 +105,5 @@ fn put_check(out: &mut [u8], at: usize) -> usize
     ensures { λ r. ⌜ Wrote (now (out .entry)) at (now (out .exit)) r (lowFirst 2 (checkOf (part 1 at (now (out .entry))))) ⌝ }
 {
     let check = fcs::check(&out[1..at]);
-    wire::put_u16_low_first(out, at, check)
+    wire_write::put_u16_low_first(out, at, check)
 }

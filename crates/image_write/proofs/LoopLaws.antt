@@ -8,7 +8,7 @@ use native.Mathlib.Omega.{arith}
 use lib.ListN.{length, take, getD, length-append}
 use lib.Seq.{take-suc, take-all}
 use Rattle.wire.specs.Wrote.{Wrote}
-use Rattle.wire.proofs.WroteLaws.{then, nothing}
+use Rattle.wire_write.proofs.WroteLaws.{then, nothing}
 use Rattle.image.specs.Codec.{Codec, Each, none, more, many}
 use Rattle.image.proofs.LoopLaws.{room-more}
 use Rattle.image_write.specs.Writing.{Put}

@@ -12,7 +12,7 @@ use lib.ListN.{length-append}
 use Rattle.wire.specs.Numbers.{lowFirst, highFirst}
 use Rattle.wire.specs.Wrote.{Wrote, WroteArray}
 use Rattle.wire.proofs.NumberLaws.{length-high}
-use Rattle.wire.proofs.WroteLaws.{then}
+use Rattle.wire_write.proofs.WroteLaws.{then}
 use Rattle.line.specs.declared.Phase.{Phase}
 use Rattle.image.specs.Codec.{Codec, block, byte, number, flag, flagByte, phase, phaseByte, _&_, fields}
 use Rattle.image_write.specs.Writing.{Put}

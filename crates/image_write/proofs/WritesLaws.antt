@@ -6,7 +6,7 @@ use native.Mathlib.Omega.{arith}
 use lib.ListN.{length}
 use borrow.Author.Tests.{eq-eqb, ne-eqb}
 use Rattle.wire.specs.Wrote.{Wrote}
-use Rattle.wire.proofs.WroteLaws.{then, full}
+use Rattle.wire_write.proofs.WroteLaws.{then, full}
 use Rattle.meter.specs.declared.Meter.{Meter}
 use Rattle.image.specs.Layout.{meterPart}
 use Rattle.image.specs.Image.{version, imageSize, imageOf, readImage}

@@ -21,7 +21,7 @@ pub fn write_image(meter: Meter, out: &mut [u8]) -> Written
     if out.len() != SIZE {
         return Written::WrongBuffer;
     }
-    let a = wire::put(out, 0, VERSION);
+    let a = wire_write::put(out, 0, VERSION);
     parts::put_meter(out, a, meter);
     Written::Done
 }

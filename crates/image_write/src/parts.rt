@@ -35,7 +35,7 @@ fn put_line(out: &mut [u8], at: usize, line: LineState) -> usize
     requires { ⌜ at + linePart .size ≤ length (now out) ⌝ }
     ensures { λ r. ⌜ Put linePart line (now (out .entry)) at (now (out .exit)) r ⌝ }
 {
-    let a = wire::put_8(out, at, &line.title);
+    let a = wire_write::put_8(out, at, &line.title);
     let v = line.verification;
     let b = put_party(out, a, v);
     let h = line.han;
@@ -47,7 +47,7 @@ fn put_party(out: &mut [u8], at: usize, party: Party) -> usize
     requires { ⌜ at + partyPart .size ≤ length (now out) ⌝ }
     ensures { λ r. ⌜ Put partyPart party (now (out .entry)) at (now (out .exit)) r ⌝ }
 {
-    let a = wire::put_8(out, at, &party.title);
+    let a = wire_write::put_8(out, at, &party.title);
     let b = put_flag(out, a, party.up);
     let p = party.phase;
     let c = put_phase(out, b, p);
@@ -60,9 +60,9 @@ fn put_cipher_party(out: &mut [u8], at: usize, party: CipherParty) -> usize
 {
     let p = party.party;
     let a = put_party(out, at, p);
-    let b = wire::put_16(out, a, &party.key);
-    let c = wire::put_8(out, b, &party.client);
-    let d = wire::put_8(out, c, &party.meter);
+    let b = wire_write::put_16(out, a, &party.key);
+    let c = wire_write::put_8(out, b, &party.client);
+    let d = wire_write::put_8(out, c, &party.meter);
     let n = party.counters;
     put_counters(out, d, n)
 }
@@ -79,7 +79,7 @@ fn put_body(out: &mut [u8], at: usize, body: BodyState) -> usize
     requires { ⌜ at + bodyPart .size ≤ length (now out) ⌝ }
     ensures { λ r. ⌜ Put bodyPart body (now (out .entry)) at (now (out .exit)) r ⌝ }
 {
-    let a = wire::put_16(out, at, &body.device);
+    let a = wire_write::put_16(out, at, &body.device);
     let clock = body.clock;
     let b = put_clock(out, a, clock);
     let c = put_four(out, b, body.period);
@@ -96,14 +96,14 @@ fn put_name(out: &mut [u8], at: usize, name: Name) -> usize
     requires { ⌜ at + namePart .size ≤ length (now out) ⌝ }
     ensures { λ r. ⌜ Put namePart name (now (out .entry)) at (now (out .exit)) r ⌝ }
 {
-    wire::put_6(out, at, &name.bytes)
+    wire_write::put_6(out, at, &name.bytes)
 }
 
 fn put_clock(out: &mut [u8], at: usize, clock: Clock) -> usize
     requires { ⌜ at + clockPart .size ≤ length (now out) ⌝ }
     ensures { λ r. ⌜ Put clockPart clock (now (out .entry)) at (now (out .exit)) r ⌝ }
 {
-    wire::put_12(out, at, &clock.bytes)
+    wire_write::put_12(out, at, &clock.bytes)
 }
 
 fn put_registers(out: &mut [u8], at: usize, registers: Registers) -> usize
@@ -136,8 +136,8 @@ fn put_register(out: &mut [u8], at: usize, register: Register) -> usize
     let name = register.name;
     let a = put_name(out, at, name);
     let b = put_flag(out, a, register.readable);
-    let c = wire::put(out, b, register.scaler);
-    let d = wire::put(out, c, register.unit);
+    let c = wire_write::put(out, b, register.scaler);
+    let d = wire_write::put(out, c, register.unit);
     put_four(out, d, register.value)
 }
 
@@ -217,9 +217,9 @@ fn put_flag(out: &mut [u8], at: usize, b: bool) -> usize
     ensures { λ r. ⌜ Put flag b (now (out .entry)) at (now (out .exit)) r ⌝ }
 {
     if b {
-        return wire::put(out, at, 1);
+        return wire_write::put(out, at, 1);
     }
-    wire::put(out, at, 0)
+    wire_write::put(out, at, 0)
 }
 
 fn put_phase(out: &mut [u8], at: usize, p: Phase) -> usize
@@ -227,9 +227,9 @@ fn put_phase(out: &mut [u8], at: usize, p: Phase) -> usize
     ensures { λ r. ⌜ Put phase p (now (out .entry)) at (now (out .exit)) r ⌝ }
 {
     match p {
-        Phase::Idle => wire::put(out, at, 0),
-        Phase::Pending => wire::put(out, at, 1),
-        Phase::Associated => wire::put(out, at, 2),
+        Phase::Idle => wire_write::put(out, at, 0),
+        Phase::Pending => wire_write::put(out, at, 1),
+        Phase::Associated => wire_write::put(out, at, 2),
     }
 }
 
@@ -238,27 +238,27 @@ fn put_two(out: &mut [u8], at: usize, n: u16) -> usize
     requires { ⌜ at + 2 ≤ length (now out) ⌝ }
     ensures { λ r. ⌜ Put (number 2) n (now (out .entry)) at (now (out .exit)) r ⌝ }
 {
-    wire::put_u16(out, at, n)
+    wire_write::put_u16(out, at, n)
 }
 
 fn put_four(out: &mut [u8], at: usize, n: u32) -> usize
     requires { ⌜ at + 4 ≤ length (now out) ⌝ }
     ensures { λ r. ⌜ Put (number 4) n (now (out .entry)) at (now (out .exit)) r ⌝ }
 {
-    wire::put_u32(out, at, n)
+    wire_write::put_u32(out, at, n)
 }
 
 fn put_eight(out: &mut [u8], at: usize, n: usize) -> usize
     requires { ⌜ at + 8 ≤ length (now out) ⌝ }
     ensures { λ r. ⌜ Put (number 8) n (now (out .entry)) at (now (out .exit)) r ⌝ }
 {
-    let a = wire::put_u32(out, at, (n / 256 / 256 / 256 / 256) as u32);
-    wire::put_u32(out, a, (n % 4294967296) as u32)
+    let a = wire_write::put_u32(out, at, (n / 256 / 256 / 256 / 256) as u32);
+    wire_write::put_u32(out, a, (n % 4294967296) as u32)
 }
 
 fn put_3(out: &mut [u8], at: usize, s: &[u8; 3]) -> usize
     requires { ⌜ at + 3 ≤ length (now out) ⌝ }
     ensures { λ r. ⌜ WroteArray 3 (now (out .entry)) at (now (out .exit)) r (now (s .entry)) ⌝ }
 {
-    wire::put_all(out, at, s)
+    wire_write::put_all(out, at, s)
 }

@@ -21,7 +21,7 @@ use Rattle.model.specs.Objects.{Request, Service, get, action, meaning, Result,
 use Rattle.model.specs.Soundness.{isNone, sound}
 use Rattle.model.specs.Calls.{Lent, Wrap, lentRefusal, act, step}
 use Rattle.wire.specs.Wrote.{Wrote}
-use Rattle.wire.proofs.WroteLaws.{past, there}
+use Rattle.wire_write.proofs.WroteLaws.{past, there}
 use Rattle.hdlc.specs.declared.Head.{Head}
 use Rattle.hdlc.specs.Replies.{apduFrame, Sent}
 use Rattle.hdlc_write.proofs.ReplyLaws.{length-apdu}

@@ -7,8 +7,9 @@ use native.Mathlib.Omega.{arith}
 use lib.ListN.{length, take, drop, length-append}
 use Rattle.wire.specs.Reading.{part}
 use Rattle.wire.specs.Wrote.{Wrote}
-use Rattle.wire.proofs.WroteLaws.{length-stretch, stands, there, past}
+use Rattle.wire.proofs.PartLaws.{length-stretch}
 use Rattle.wire.proofs.LengthLaws.{field-size}
+use Rattle.wire_write.proofs.WroteLaws.{stands, there, past}
 use Rattle.model.specs.Limits.{envelopeLength}
 use Rattle.hdlc.specs.Tests.{replyLlc}
 use Rattle.hdlc.specs.Replies.{apduFrame, dataFrame, Sent}

@@ -61,7 +61,7 @@ pub fn send_proof(
     ensures { λ r. ⌜ Sent (apduFrame head (sealedEnvelope (keysOf keys) title 0xCF second (provedText (keysOf keys) title challenge invoke first))) (now (out .entry)) (now (out .exit)) r ⌝ }
 {
     let text = APDU_AT + envelope::head_size(PROVED_SIZE);
-    let value = wire::put_all(out, text, &[0xC7, 0x01, invoke, 0x00, 0x01, 0x00]);
+    let value = wire_write::put_all(out, text, &[0xC7, 0x01, invoke, 0x00, 0x01, 0x00]);
     envelope::put_proof(out, value, keys, title, challenge, first);
     close_and_send(out, head, keys, title, 0xCF, second, PROVED_SIZE)
 }
@@ -80,7 +80,7 @@ pub fn send_denial(
     ensures { λ r. ⌜ Sent (apduFrame head (sealedEnvelope (keysOf keys) title 0xCF counter (actionAnswer invoke (denied code)))) (now (out .entry)) (now (out .exit)) r ⌝ }
 {
     let text = APDU_AT + envelope::head_size(DENIED_SIZE);
-    wire::put_all(out, text, &[0xC7, 0x01, invoke, code, 0x00]);
+    wire_write::put_all(out, text, &[0xC7, 0x01, invoke, code, 0x00]);
     close_and_send(out, head, keys, title, 0xCF, counter, DENIED_SIZE)
 }
 
@@ -99,7 +99,7 @@ pub fn send_enclosed(
     ensures { λ r. ⌜ Sent (apduFrame head (sealedEnvelope (keysOf keys) title tag counter (take n (drop 20 (now (out .entry)))))) (now (out .entry)) (now (out .exit)) r ⌝ }
 {
     let text = APDU_AT + envelope::head_size(n);
-    wire::move_down(out, TEXT_AT, text, n);
+    wire_write::move_down(out, TEXT_AT, text, n);
     close_and_send(out, head, keys, title, tag, counter, n)
 }
 

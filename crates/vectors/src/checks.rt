@@ -14,18 +14,18 @@ pub fn line(s: &[u8], m: &[u8]) {
 
 fn number(n: u16) {
     let mut out = [0u8; 2];
-    wire::put_u16(&mut out, 0, n);
+    wire_write::put_u16(&mut out, 0, n);
     print_hex(&out);
 }
 
 fn check(n: u16) {
     let mut out = [0u8; 2];
-    wire::put_u16_low_first(&mut out, 0, n);
+    wire_write::put_u16_low_first(&mut out, 0, n);
     print_hex(&out);
 }
 
 fn length(n: u16) {
     let mut out = [0u8; 3];
-    let end = wire::put_length(&mut out, 0, n as usize);
+    let end = wire_write::put_length(&mut out, 0, n as usize);
     print_hex(text::first(&out, end));
 }

@@ -83,7 +83,7 @@ fn close(s: &[u8], plain: &[u8])
 {
     let n = plain.len();
     let mut room = [0u8; 512];
-    wire::put_all(&mut room, start(s, n), plain);
+    wire_write::put_all(&mut room, start(s, n), plain);
     enclose(s, room, number(s, 8), n);
 }
 
@@ -105,7 +105,7 @@ fn prove(s: &[u8], plain: &[u8], inner: u32, outer: u32)
 {
     let n = plain.len() + 19;
     let mut room = [0u8; 512];
-    let value = wire::put_all(&mut room, start(s, n), plain);
+    let value = wire_write::put_all(&mut room, start(s, n), plain);
     envelope::put_proof(&mut room, value, keys(s), title(s), bytes_8(s, 10), inner);
     enclose(s, room, outer, n);
 }

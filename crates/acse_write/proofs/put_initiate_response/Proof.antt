@@ -4,7 +4,7 @@ use mathlib.Core.Path.{refl}
 use Rattle.model.specs.Limits.{longestReceived, toldSize}
 use Rattle.acse.specs.Initiate.{initiateResponse}
 use Rattle.wire.specs.Wrote.{WroteArray}
-use Rattle.wire.proofs.WroteLaws.{sized, then-array}
+use Rattle.wire_write.proofs.WroteLaws.{sized, then-array}
 use Rattle.acse_write.proofs.put_initiate_response.Statement.{statement}
 use Rattle.acse_write.proofs.put_initiate_response.Tie as tie
 

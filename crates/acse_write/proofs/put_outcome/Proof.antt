@@ -2,7 +2,7 @@
 use mathlib.Core.List.{append-assoc}
 use borrow.Author.Needs.{needs}
 use Rattle.acse.specs.Aare.{outcome}
-use Rattle.wire.proofs.WroteLaws.{sized, then-array}
+use Rattle.wire_write.proofs.WroteLaws.{sized, then-array}
 use Rattle.acse_write.proofs.put_outcome.Statement.{statement}
 use Rattle.acse_write.proofs.put_outcome.Tie as tie
 

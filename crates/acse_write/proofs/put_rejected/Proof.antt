@@ -1,7 +1,7 @@
 -- `acse_write::put_rejected` meets its contract: its writes join.
 use borrow.Author.Needs.{needs}
 use Rattle.acse.specs.Aare.{rejectedAare}
-use Rattle.wire.proofs.WroteLaws.{sized, then-array}
+use Rattle.wire_write.proofs.WroteLaws.{sized, then-array}
 use Rattle.acse_write.proofs.put_rejected.Statement.{statement}
 use Rattle.acse_write.proofs.put_rejected.Tie as tie
 

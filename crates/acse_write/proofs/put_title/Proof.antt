@@ -1,6 +1,6 @@
 -- `acse_write::put_title` meets its contract: its writes join.
 use borrow.Author.Needs.{needs}
-use Rattle.wire.proofs.WroteLaws.{sized, then-array}
+use Rattle.wire_write.proofs.WroteLaws.{sized, then-array}
 use Rattle.acse_write.proofs.put_title.Statement.{statement}
 use Rattle.acse_write.proofs.put_title.Tie as tie
 

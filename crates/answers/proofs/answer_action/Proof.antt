@@ -1,7 +1,7 @@
 -- `answers::answer_action` meets its contract.
 use mathlib.Core.Path.{refl}
 use native.Mathlib.Omega.{arith}
-use Rattle.wire.proofs.WroteLaws.{then}
+use Rattle.wire_write.proofs.WroteLaws.{then}
 use Rattle.model.specs.Objects.{action}
 use Rattle.model.proofs.LimitFacts.{text-room}
 use Rattle.body.specs.View.{bodyOf}

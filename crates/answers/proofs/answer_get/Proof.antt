@@ -1,7 +1,7 @@
 -- `answers::answer_get` meets its contract.
 use mathlib.Core.Path.{refl}
 use native.Mathlib.Omega.{arith}
-use Rattle.wire.proofs.WroteLaws.{then}
+use Rattle.wire_write.proofs.WroteLaws.{then}
 use Rattle.model.specs.Objects.{get}
 use Rattle.model.proofs.LimitFacts.{data-room, text-room}
 use Rattle.store.proofs.StoreLaws.{rows-counted}

@@ -1,5 +1,5 @@
 -- `answers::put_head` meets its contract.
-use Rattle.wire.proofs.WroteLaws.{then}
+use Rattle.wire_write.proofs.WroteLaws.{then}
 use borrow.Author.Needs.{needs}
 use Rattle.answers.proofs.put_head.Statement.{statement}
 use Rattle.answers.proofs.put_head.Tie as tie

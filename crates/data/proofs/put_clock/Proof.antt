@@ -1,7 +1,7 @@
 -- `data::put_clock` meets its contract.
 use mathlib.Core.Path.{ap}
 use Prim.Native.Nat.{ℕ, suc}
-use Rattle.wire.proofs.WroteLaws.{then}
+use Rattle.wire_write.proofs.WroteLaws.{then}
 use borrow.Author.Needs.{needs}
 use Rattle.data.proofs.put_clock.Statement.{statement}
 use Rattle.data.proofs.put_clock.Tie as tie

@@ -1,7 +1,7 @@
 -- `hdlc_write::put_frmr` meets its contract: its three bytes of information stand from byte 8 on, and the frame around them.
 use mathlib.Core.Path.{sym}
 use borrow.Author.Needs.{needs}
-use Rattle.wire.proofs.WroteLaws.{then}
+use Rattle.wire_write.proofs.WroteLaws.{then}
 use Rattle.hdlc_write.proofs.ReplyLaws.{framed}
 use Rattle.hdlc_write.proofs.put_frmr.Statement.{statement}
 use Rattle.hdlc_write.proofs.put_frmr.Tie as tie

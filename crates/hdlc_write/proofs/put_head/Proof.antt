@@ -1,6 +1,6 @@
 -- `hdlc_write::put_head` meets its contract: its writes join.
 use borrow.Author.Needs.{needs}
-use Rattle.wire.proofs.WroteLaws.{then}
+use Rattle.wire_write.proofs.WroteLaws.{then}
 use Rattle.hdlc.specs.Layout.{headBytes}
 use Rattle.hdlc_write.proofs.put_head.Statement.{statement}
 use Rattle.hdlc_write.proofs.put_head.Tie as tie

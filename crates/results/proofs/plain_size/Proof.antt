@@ -1,7 +1,7 @@
 -- `results::plain_size` meets its contract.
 use native.Mathlib.Omega.{arith}
 use lib.Seq.{length-take-le}
-use Rattle.wire.proofs.WroteLaws.{length-stretch}
+use Rattle.wire.proofs.PartLaws.{length-stretch}
 use Rattle.body.specs.View.{bodyOf}
 use Rattle.results.proofs.Lengths.{device-long, clock-long}
 use borrow.Author.Needs.{needs}

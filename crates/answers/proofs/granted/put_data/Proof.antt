@@ -1,6 +1,6 @@
 -- `answers::granted::put_data` meets its contract.
 use native.Mathlib.Omega.{arith}
-use Rattle.wire.proofs.WroteLaws.{nothing}
+use Rattle.wire_write.proofs.WroteLaws.{nothing}
 use Rattle.body.specs.View.{bodyOf}
 use Rattle.results.proofs.Lengths.{name-long}
 use Rattle.results.proofs.ResultLaws.{sound-even}

@@ -1,7 +1,8 @@
 -- `answers::granted::put_plain` meets its contract.
 use native.Mathlib.Omega.{arith}
 use lib.Seq.{length-take-le}
-use Rattle.wire.proofs.WroteLaws.{then, length-stretch}
+use Rattle.wire.proofs.PartLaws.{length-stretch}
+use Rattle.wire_write.proofs.WroteLaws.{then}
 use Rattle.body.specs.View.{bodyOf}
 use Rattle.results.proofs.Lengths.{device-long, clock-long}
 use borrow.Author.Needs.{needs}

@@ -1,6 +1,6 @@
 -- `envelope::challenge::put_proof` meets its contract: three writes, one after the other.
 use borrow.Author.Needs.{needs}
-use Rattle.wire.proofs.WroteLaws.{then}
+use Rattle.wire_write.proofs.WroteLaws.{then}
 use Rattle.envelope.specs.Challenge.{proofValue}
 use Rattle.envelope.proofs.challenge.put_proof.Statement.{statement}
 use Rattle.envelope.proofs.challenge.put_proof.Tie as tie

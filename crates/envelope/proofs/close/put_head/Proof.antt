@@ -6,7 +6,7 @@ use native.Mathlib.Omega.{arith}
 use borrow.Author.Needs.{needs}
 use lib.ListN.{length}
 use Rattle.wire.specs.Numbers.{lengthField}
-use Rattle.wire.proofs.WroteLaws.{then}
+use Rattle.wire_write.proofs.WroteLaws.{then}
 use Rattle.envelope.specs.Layout.{countedLength, head}
 use Rattle.envelope.proofs.close.put_head.Statement.{statement}
 use Rattle.envelope.proofs.close.put_head.Tie as tie

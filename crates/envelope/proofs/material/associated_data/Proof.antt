@@ -1,7 +1,7 @@
 -- `envelope::material::associated_data` meets its contract: the two writes fill the array.
 use native.Mathlib.Omega.{arith}
 use borrow.Author.Needs.{needs}
-use Rattle.wire.proofs.WroteLaws.{then, full}
+use Rattle.wire_write.proofs.WroteLaws.{then, full}
 use Rattle.envelope.specs.Layout.{associatedData}
 use Rattle.envelope.proofs.material.associated_data.Statement.{statement}
 use Rattle.envelope.proofs.material.associated_data.Tie as tie

@@ -1,7 +1,7 @@
 -- `envelope::material::nonce` meets its contract: the two writes fill the array.
 use native.Mathlib.Omega.{arith}
 use borrow.Author.Needs.{needs}
-use Rattle.wire.proofs.WroteLaws.{then, full}
+use Rattle.wire_write.proofs.WroteLaws.{then, full}
 use lib.ListN.{length-append}
 use Rattle.envelope.specs.Layout.{nonce}
 use Rattle.envelope.proofs.material.nonce.Statement.{statement}

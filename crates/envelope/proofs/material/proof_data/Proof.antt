@@ -2,7 +2,7 @@
 use native.Mathlib.Omega.{arith}
 use borrow.Author.Needs.{needs}
 use lib.ListN.{length-append}
-use Rattle.wire.proofs.WroteLaws.{then, full}
+use Rattle.wire_write.proofs.WroteLaws.{then, full}
 use Rattle.envelope.specs.Challenge.{proofData}
 use Rattle.envelope.proofs.material.proof_data.Statement.{statement}
 use Rattle.envelope.proofs.material.proof_data.Tie as tie

@@ -5,7 +5,7 @@ use Prim.Native.Nat.{ℕ, _+_}
 use native.Mathlib.Omega.{arith}
 use borrow.Author.Needs.{needs}
 use Rattle.model.proofs.LimitFacts.{reply-room}
-use Rattle.wire.proofs.WroteLaws.{then}
+use Rattle.wire_write.proofs.WroteLaws.{then}
 use Rattle.acse.specs.Initiate.{initiateResponse}
 use Rattle.envelope.proofs.CloseLaws.{envelope-size}
 use Rattle.hdlc_write.proofs.ReplyLaws.{apdu-framed}

@@ -5,7 +5,7 @@ use native.Mathlib.Omega.{arith}
 use lib.ListN.{take, drop}
 use borrow.Author.Needs.{needs}
 use Rattle.model.proofs.LimitFacts.{reply-room, text-room}
-use Rattle.wire.proofs.WroteLaws.{length-stretch}
+use Rattle.wire.proofs.PartLaws.{length-stretch}
 use Rattle.envelope.specs.Layout.{keysOf}
 use Rattle.replies.proofs.SendLaws.{enclosed, head-limits}
 use Rattle.replies.proofs.enclosed.send_enclosed.Statement.{statement}
