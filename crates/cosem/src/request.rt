@@ -64,9 +64,9 @@ pub fn read_service(kind: ServiceKind, apdu: &[u8]) -> Reading
 pub fn name_in(apdu: &[u8]) -> Name
     ensures { λ r. ⌜ r ≡ nameIn (now (apdu .entry)) ⌝ }
 {
-    let mut bytes = [0u8; 6];
-    wire::fill_at(apdu, 5, &mut bytes);
-    Name { bytes }
+    Name {
+        bytes: wire::six_at(apdu, 5),
+    }
 }
 
 // Whether the optional part of a request of this tag and choice is there.

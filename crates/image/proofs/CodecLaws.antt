@@ -7,12 +7,13 @@ use Prim.Native.Nat.{ℕ, zero, suc, _+_, _*_, _≤_, _<_}
 use native.Mathlib.Nat.{zero-mul, suc-mul, mod-eq-of-lt, add-zero}
 use native.Mathlib.Omega.{arith}
 use lib.Dec.{eqb, ltb}
-use lib.ListN.{length, take, drop, getD, length-append, length-drop}
+use lib.ListN.{length, take, drop, getD, replicate, length-append, length-drop, length-replicate}
 use lib.Seq.{take-at, drop-at, drop-drop, take-add, getD-drop, length-take-le}
 use borrow.Author.Tests.{ltb-true}
 use Rattle.wire.specs.Numbers.{highFirst, numberHigh}
+use Rattle.wire.specs.Reading.{filled}
 use Rattle.wire.proofs.NumberLaws.{Bytes, length-high, high-number, high-bytes}
-use Rattle.wire.proofs.ReadingLaws.{part-bytes}
+use Rattle.wire.proofs.ReadingLaws.{fill-here, part-bytes}
 use Rattle.line.specs.declared.Phase.{Phase}
 use Rattle.line.specs.declared.Phase.the-variants.{Idle, Pending, Associated}
 use Rattle.image.specs.Codec.{Codec, block, byte, number, flag, flagByte, phase, phaseByte, phaseOf, _&_, fields, values, allTaken, Each, none, more, many, Got}
@@ -214,6 +215,11 @@ module _ {A : Type 0} {c : Codec A} (p : Lawful c) where
       }
 
 -- Parts that were read.
+
+pub got-block : (n : ℕ) {s : List ℕ} {at : ℕ} {x : List ℕ} → at + n ≤ length s → x ≡ filled s at (replicate n 0) → Got (block n) s at x
+got-block n {s} {at} h e =
+    let z : length (replicate {A = ℕ} n 0) ≡ n = length-replicate n 0 in
+    record { is = e ∙ rw z at (fill-here s at (replicate n 0) (rw z h)) }
 
 pub got-both : {A B : Type 0} {a : Codec A} {b : Codec B} {s : List ℕ} {at z : ℕ} {x : A} {y : B} → Got a s at x → a .size ≡ z → Got b s (at + z) y → Got (a & b) s at (x, y)
 got-both {A = A} {B = B} {a = a} {b = b} {s = s} {at = at} g e h =

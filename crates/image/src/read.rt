@@ -16,7 +16,7 @@ use store::Rows;
 use wire::Field;
 ghost use Prim.Native.Nat.{_+_, _≤_};
 ghost use lib.ListN.{length};
-ghost use Rattle.image.specs.Codec.{block, byte, flag, Got, many, number, phase};
+ghost use Rattle.image.specs.Codec.{byte, flag, Got, many, number, phase};
 ghost use Rattle.image.specs.Lists.{Firsts};
 ghost use Rattle.image.specs.Layout.{bodyPart, cipherPartyPart, clockPart, columnsPart, countersPart, linePart, meterPart, namePart, partyPart, registerPart, registersPart, rowPart, rowsPart};
 
@@ -52,7 +52,7 @@ fn line_at(s: &[u8], at: usize) -> LineState
     requires { ⌜ at + linePart .size ≤ length (now s) ⌝ }
     ensures { λ r. ⌜ Got linePart (now (s .entry)) at r ⌝ }
 {
-    let title = eight_bytes(s, at);
+    let title = wire::eight_at(s, at);
     let a = at + 8;
     let verification = party_at(s, a);
     let b = a + PARTY;
@@ -70,12 +70,12 @@ fn party_at(s: &[u8], at: usize) -> Party
     requires { ⌜ at + partyPart .size ≤ length (now s) ⌝ }
     ensures { λ r. ⌜ Got partyPart (now (s .entry)) at r ⌝ }
 {
-    let title = eight_bytes(s, at);
+    let title = wire::eight_at(s, at);
     let a = at + 8;
     let up = flag_at(s, a);
     let b = a + 1;
     let phase = phase_at(s, b);
-    let agreed = three_bytes(s, b + 1);
+    let agreed = wire::three_at(s, b + 1);
     Party {
         title,
         up,
@@ -90,11 +90,11 @@ fn cipher_party_at(s: &[u8], at: usize) -> CipherParty
 {
     let party = party_at(s, at);
     let a = at + PARTY;
-    let key = sixteen_bytes(s, a);
+    let key = wire::sixteen_at(s, a);
     let b = a + 16;
-    let client = eight_bytes(s, b);
+    let client = wire::eight_at(s, b);
     let c = b + 8;
-    let meter = eight_bytes(s, c);
+    let meter = wire::eight_at(s, c);
     let counters = counters_at(s, c + 8);
     CipherParty {
         party,
@@ -118,7 +118,7 @@ fn body_at(s: &[u8], at: usize) -> BodyState
     requires { ⌜ at + bodyPart .size ≤ length (now s) ⌝ }
     ensures { λ r. ⌜ Got bodyPart (now (s .entry)) at r ⌝ }
 {
-    let device = sixteen_bytes(s, at);
+    let device = wire::sixteen_at(s, at);
     let a = at + 16;
     let clock = clock_at(s, a);
     let b = a + CLOCK;
@@ -145,7 +145,7 @@ fn name_at(s: &[u8], at: usize) -> Name
     requires { ⌜ at + namePart .size ≤ length (now s) ⌝ }
     ensures { λ r. ⌜ Got namePart (now (s .entry)) at r ⌝ }
 {
-    let bytes = six_bytes(s, at);
+    let bytes = wire::six_at(s, at);
     Name { bytes }
 }
 
@@ -153,7 +153,7 @@ fn clock_at(s: &[u8], at: usize) -> Clock
     requires { ⌜ at + clockPart .size ≤ length (now s) ⌝ }
     ensures { λ r. ⌜ Got clockPart (now (s .entry)) at r ⌝ }
 {
-    let bytes = twelve_bytes(s, at);
+    let bytes = wire::twelve_at(s, at);
     Clock { bytes }
 }
 
@@ -161,7 +161,7 @@ fn registers_at(s: &[u8], at: usize) -> Registers
     requires { ⌜ at + registersPart .size ≤ length (now s) ⌝ }
     ensures { λ r. ⌜ Got registersPart (now (s .entry)) at r ⌝ }
 {
-    let count = eight_at(s, at);
+    let count = count_at(s, at);
     let items = each_register_at(s, at + 8, 16);
     Registers { count, items }
 }
@@ -215,7 +215,7 @@ fn columns_at(s: &[u8], at: usize) -> Columns
     requires { ⌜ at + columnsPart .size ≤ length (now s) ⌝ }
     ensures { λ r. ⌜ Got columnsPart (now (s .entry)) at r ⌝ }
 {
-    let count = eight_at(s, at);
+    let count = count_at(s, at);
     let items = each_column_at(s, at + 8, 16);
     Columns { count, items }
 }
@@ -241,7 +241,7 @@ fn rows_at(s: &[u8], at: usize) -> Rows
     requires { ⌜ at + rowsPart .size ≤ length (now s) ⌝ }
     ensures { λ r. ⌜ Got rowsPart (now (s .entry)) at r ⌝ }
 {
-    let count = eight_at(s, at);
+    let count = count_at(s, at);
     let items = each_row_at(s, at + 8);
     Rows { count, items }
 }
@@ -271,7 +271,7 @@ fn row_at(s: &[u8], at: usize) -> Row
     let a = at + 2;
     let clock = clock_at(s, a);
     let b = a + CLOCK;
-    let count = eight_at(s, b);
+    let count = count_at(s, b);
     let cells = cells_at(s, b + 8);
     Row {
         number,
@@ -325,7 +325,7 @@ fn byte_at(s: &[u8], at: usize) -> u8
     s[at]
 }
 
-// A number in two, four or eight bytes.
+// A number in two or four bytes.
 fn two_at(s: &[u8], at: usize) -> u16
     requires { ⌜ at + 2 ≤ length (now s) ⌝ }
     ensures { λ r. ⌜ Got (number 2) (now (s .entry)) at r ⌝ }
@@ -346,57 +346,12 @@ fn four_at(s: &[u8], at: usize) -> u32
     value
 }
 
-fn eight_at(s: &[u8], at: usize) -> usize
+// A count, a number in eight bytes.
+fn count_at(s: &[u8], at: usize) -> usize
     requires { ⌜ at + 8 ≤ length (now s) ⌝ }
     ensures { λ r. ⌜ Got (number 8) (now (s .entry)) at r ⌝ }
 {
     let high = four_at(s, at) as usize;
     let low = four_at(s, at + 4) as usize;
     high * 4294967296 + low
-}
-
-// The bytes at a place.
-fn three_bytes(s: &[u8], at: usize) -> [u8; 3]
-    requires { ⌜ at + 3 ≤ length (now s) ⌝ }
-    ensures { λ r. ⌜ Got (block 3) (now (s .entry)) at r ⌝ }
-{
-    let mut bytes = [0u8; 3];
-    wire::fill_at(s, at, &mut bytes);
-    bytes
-}
-
-fn six_bytes(s: &[u8], at: usize) -> [u8; 6]
-    requires { ⌜ at + 6 ≤ length (now s) ⌝ }
-    ensures { λ r. ⌜ Got (block 6) (now (s .entry)) at r ⌝ }
-{
-    let mut bytes = [0u8; 6];
-    wire::fill_at(s, at, &mut bytes);
-    bytes
-}
-
-fn eight_bytes(s: &[u8], at: usize) -> [u8; 8]
-    requires { ⌜ at + 8 ≤ length (now s) ⌝ }
-    ensures { λ r. ⌜ Got (block 8) (now (s .entry)) at r ⌝ }
-{
-    let mut bytes = [0u8; 8];
-    wire::fill_at(s, at, &mut bytes);
-    bytes
-}
-
-fn twelve_bytes(s: &[u8], at: usize) -> [u8; 12]
-    requires { ⌜ at + 12 ≤ length (now s) ⌝ }
-    ensures { λ r. ⌜ Got (block 12) (now (s .entry)) at r ⌝ }
-{
-    let mut bytes = [0u8; 12];
-    wire::fill_at(s, at, &mut bytes);
-    bytes
-}
-
-fn sixteen_bytes(s: &[u8], at: usize) -> [u8; 16]
-    requires { ⌜ at + 16 ≤ length (now s) ⌝ }
-    ensures { λ r. ⌜ Got (block 16) (now (s .entry)) at r ⌝ }
-{
-    let mut bytes = [0u8; 16];
-    wire::fill_at(s, at, &mut bytes);
-    bytes
 }

@@ -9,8 +9,6 @@ use lib.ListN.{length, replicate, length-replicate}
 use borrow.Author.Tests.{eq-eqb, ne-eqb, eqb-true, eqb-false}
 use Rattle.wire.specs.Reading.{filled}
 use Rattle.wire.proofs.ReadingLaws.{filled-whole}
-use Rattle.model.specs.declared.Name.{Name}
-use Rattle.model.specs.declared.Clock.{Clock}
 use Rattle.model.specs.State.{Model, newMeter}
 use Rattle.model.specs.Soundness.{sound}
 use Rattle.model.specs.Calls.{OwnerCall, owner, answer, Protocol, ownRefusal, obeyed, act, step}
@@ -167,14 +165,8 @@ ends-written z k w = record { number = sym z; stored = λ long y _. stored k w l
 
 -- Lent bytes of the right length, as arrays.
 
-taken-whole : (w k : ℕ) (s : List ℕ) → eqb k 0 ≡ false → faultOf (sized w s) k ≡ 0 → filled s 0 (replicate w 0) ≡ s
+pub taken-whole : (w k : ℕ) (s : List ℕ) → eqb k 0 ≡ false → faultOf (sized w s) k ≡ 0 → filled s 0 (replicate w 0) ≡ s
 taken-whole w k s some h = filled-whole s (replicate w 0) (eqb-true (length s) w (passed (sized w s) k some h) ∙ sym (length-replicate w 0))
-
-pub named : (s : List ℕ) {x : Name} → x ≡ record { bytes = filled s 0 (replicate 6 0) } → faultOf (sized 6 s) 17 ≡ 0 → x ≡ record { bytes = s }
-named s e h = e ∙ ap (λ (b : List ℕ). record { bytes = b }) (taken-whole 6 17 s refl h)
-
-pub clocked : (s : List ℕ) {x : Clock} → x ≡ record { bytes = filled s 0 (replicate 12 0) } → faultOf (sized 12 s) 14 ≡ 0 → x ≡ record { bytes = s }
-clocked s e h = e ∙ ap (λ (b : List ℕ). record { bytes = b }) (taken-whole 12 14 s refl h)
 
 -- A new meter.
 

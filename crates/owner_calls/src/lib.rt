@@ -2,7 +2,6 @@
 // call is made: bytes that are no whole image, then an argument that cannot be taken, by document 01's number where 01 knows the
 // fault and in its order. Then the call of that name is made on the meter in the buffer; where it is accepted, the meter that
 // comes back is written there, with zeros wherever it holds nothing. Else nothing is written.
-mod lent;
 mod refusals;
 
 use image::CLOCK;
@@ -12,6 +11,9 @@ use image::SIZE;
 use image::WRONG_LENGTH;
 use meter::Changed;
 use meter::Meter;
+use model::Clock;
+use model::Name;
+use refusals::are_sized;
 use refusals::fault_of;
 use refusals::refusal_of;
 ghost use Rattle.owner_calls.specs.Lending.{LentOwner};
@@ -36,18 +38,15 @@ pub fn new(state: &mut [u8], device: &[u8], title: &[u8], v_title: &[u8], h_titl
     if state.len() != SIZE {
         return WRONG_LENGTH;
     }
-    let n = fault_of(
-        lent::are_sized(device, title, v_title, h_title),
-        WRONG_ARGUMENT,
-    );
+    let n = fault_of(are_sized(device, title, v_title, h_title), WRONG_ARGUMENT);
     if n != 0 {
         return n;
     }
     let meter = Meter::new(
-        lent::sixteen_of(device),
-        lent::eight_of(title),
-        lent::eight_of(v_title),
-        lent::eight_of(h_title),
+        wire::sixteen_at(device, 0),
+        wire::eight_at(title, 0),
+        wire::eight_at(v_title, 0),
+        wire::eight_at(h_title, 0),
     );
     image_write::write_image(meter, state);
     0
@@ -80,7 +79,8 @@ pub fn set_value(state: &mut [u8], name: &[u8], value: u32) -> u8
         return n;
     }
     let meter = image::meter_in(state);
-    let changed = meter.set_value(lent::name_of(name), value);
+    let bytes = wire::six_at(name, 0);
+    let changed = meter.set_value(Name { bytes }, value);
     end(changed, state)
 }
 
@@ -121,7 +121,8 @@ pub fn tick(state: &mut [u8], clock: &[u8]) -> u8
         return n;
     }
     let meter = image::meter_in(state);
-    let changed = meter.tick(lent::clock_of(clock));
+    let bytes = wire::twelve_at(clock, 0);
+    let changed = meter.tick(Clock { bytes });
     end(changed, state)
 }
 

@@ -3,7 +3,7 @@ ghost use mathlib.Core.Path.{_≡_};
 ghost use Rattle.model.specs.Soundness.{sound};
 ghost use Rattle.meter.specs.View.{view};
 ghost use Rattle.image.specs.Image.{meterIn, meterOf, statusOf};
-ghost use Rattle.owner_calls.specs.Refusals.{faultOf, faultRefusal, refusalBy};
+ghost use Rattle.owner_calls.specs.Refusals.{faultOf, faultRefusal, newSized, refusalBy};
 
 // Of a call on this state buffer: by what reading the buffer comes to, then by the fault of an argument; 0 where the call is to
 // be made.
@@ -39,4 +39,20 @@ pub fn fault_of(taken: bool, number: u8) -> u8
         return 0;
     }
     number
+}
+
+// Whether a device name and the titles of the meter, of V and of H have their lengths.
+pub fn are_sized(device: &[u8], title: &[u8], v_title: &[u8], h_title: &[u8]) -> bool
+    ensures { λ r. ⌜ r ≡ newSized (now (device .entry)) (now (title .entry)) (now («v_title» .entry)) (now («h_title» .entry)) ⌝ }
+{
+    if device.len() != 16 {
+        return false;
+    }
+    if title.len() != 8 {
+        return false;
+    }
+    if v_title.len() != 8 {
+        return false;
+    }
+    h_title.len() == 8
 }

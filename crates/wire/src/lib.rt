@@ -4,11 +4,16 @@
 mod read;
 
 pub use read::byte_at;
+pub use read::eight_at;
 pub use read::expect_at;
 pub use read::fill_at;
 pub use read::length_at;
 pub use read::same;
+pub use read::six_at;
+pub use read::sixteen_at;
 pub use read::skip_at;
+pub use read::three_at;
+pub use read::twelve_at;
 pub use read::u16_at;
 pub use read::u32_at;
 

@@ -3,7 +3,7 @@ use crate::End;
 use crate::Field;
 ghost use mathlib.Core.Path.{_≡_};
 ghost use Prim.Native.Nat.{_+_, _≤_, _<_};
-ghost use lib.ListN.{length, take, drop};
+ghost use lib.ListN.{length, take, drop, replicate};
 ghost use Rattle.wire.specs.Numbers.{numberHigh};
 ghost use Rattle.wire.specs.Reading.{atLeast, expected, filled, Filled, lengthAt, numberAt, sameBytes, skipped};
 
@@ -53,6 +53,47 @@ pub fn expect_at(s: &[u8], at: usize, b: &[u8]) -> End
     } else {
         End::Bad
     }
+}
+
+// The bytes at a position, as many as an array has; zeros where there are fewer.
+pub fn three_at(s: &[u8], at: usize) -> [u8; 3]
+    ensures { λ r. ⌜ r ≡ filled (now (s .entry)) at (replicate 3 0) ⌝ }
+{
+    let mut bytes = [0u8; 3];
+    fill(s, at, &mut bytes);
+    bytes
+}
+
+pub fn six_at(s: &[u8], at: usize) -> [u8; 6]
+    ensures { λ r. ⌜ r ≡ filled (now (s .entry)) at (replicate 6 0) ⌝ }
+{
+    let mut bytes = [0u8; 6];
+    fill(s, at, &mut bytes);
+    bytes
+}
+
+pub fn eight_at(s: &[u8], at: usize) -> [u8; 8]
+    ensures { λ r. ⌜ r ≡ filled (now (s .entry)) at (replicate 8 0) ⌝ }
+{
+    let mut bytes = [0u8; 8];
+    fill(s, at, &mut bytes);
+    bytes
+}
+
+pub fn twelve_at(s: &[u8], at: usize) -> [u8; 12]
+    ensures { λ r. ⌜ r ≡ filled (now (s .entry)) at (replicate 12 0) ⌝ }
+{
+    let mut bytes = [0u8; 12];
+    fill(s, at, &mut bytes);
+    bytes
+}
+
+pub fn sixteen_at(s: &[u8], at: usize) -> [u8; 16]
+    ensures { λ r. ⌜ r ≡ filled (now (s .entry)) at (replicate 16 0) ⌝ }
+{
+    let mut bytes = [0u8; 16];
+    fill(s, at, &mut bytes);
+    bytes
 }
 
 // Fills `out` with the bytes at `at`, where there are as many; else leaves it as it was.

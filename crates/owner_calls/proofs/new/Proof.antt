@@ -22,17 +22,17 @@ returns-3 : tie.Need-returns-3
 returns-3 c =
     let at-write-image = c .before .before in
     let at-new = at-write-image .before .before in
-    let at-eight-of3 = at-new .before in
-    let at-eight-of2 = at-eight-of3 .before in
-    let at-eight-of = at-eight-of2 .before in
-    let at-sixteen-of = at-eight-of .before in
-    let at-if2 = at-sixteen-of .before in
+    let at-eight-at3 = at-new .before in
+    let at-eight-at2 = at-eight-at3 .before in
+    let at-eight-at = at-eight-at2 .before in
+    let at-sixteen-at = at-eight-at .before in
+    let at-if2 = at-sixteen-at .before in
     let at-fault-of = at-if2 .before in
     let at-are-sized = at-fault-of .before in
     let at-if1 = at-are-sized .before in
     let a = at-if1 .before .before .before .before .before .before .args in
     let none = sym (new-fault (a .device .now) (a .title .now) (a .v-title .now) (a .h-title .now) (at-are-sized .are-sized .ensures) (at-fault-of .fault-of .ensures)) ∙ at-if2 .if2 .left in
-    let given = new-given (a .device .now) (a .title .now) (a .v-title .now) (a .h-title .now) none (at-sixteen-of .sixteen-of .ensures) (at-eight-of .eight-of .ensures) (at-eight-of2 .eight-of2 .ensures) (at-eight-of3 .eight-of3 .ensures) in
+    let given = new-given (a .device .now) (a .title .now) (a .v-title .now) (a .h-title .now) none (at-sixteen-at .sixteen-at .ensures) (at-eight-at .eight-at .ensures) (at-eight-at2 .eight-at2 .ensures) (at-eight-at3 .eight-at3 .ensures) in
     new-called (at-if1 .if1 .left ∙ sym (sizes .image-size)) none given (at-new .new .ensures) (at-write-image .write-image .ensures)
 
 pub new-spec : {M : Type 1} → statement M

@@ -10,7 +10,7 @@ use Rattle.cosem.proofs.request.name_in.Tie as tie
 
 returns : tie.Need-returns
 unfolding nameIn
-returns c = ap {B = Name} (λ (b : List ℕ). record { bytes = b }) (c .before .fill-at .ensures .is)
+returns c = ap {B = Name} (λ (b : List ℕ). record { bytes = b }) (c .six-at .ensures)
 
 pub name-in-spec : {M : Type 1} → statement M
-name-in-spec = tie.close (tie.spec (λ c. search needs) (λ c κs. search needs) returns)
+name-in-spec = tie.close (tie.spec (λ c κs. search needs) returns)

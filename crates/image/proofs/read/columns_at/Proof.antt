@@ -10,7 +10,7 @@ use Rattle.image.proofs.read.columns_at.Tie as tie
 
 returns : tie.Need-returns
 unfolding columnsPart
-returns c = got-fields _ _ (got-both (c .before .eight-at .ensures) refl (firsts-all (c .each-column-at .ensures)))
+returns c = got-fields _ _ (got-both (c .before .count-at .ensures) refl (firsts-all (c .each-column-at .ensures)))
 
 pub columns-at-spec : {M : Type 1} → statement M
 columns-at-spec = tie.close (tie.spec (λ c κs. let z = sizes in omega arith) (λ c. let z = sizes in omega arith) (λ c κs. let z = sizes in (omega arith, omega arith)) returns)

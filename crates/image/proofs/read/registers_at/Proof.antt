@@ -10,7 +10,7 @@ use Rattle.image.proofs.read.registers_at.Tie as tie
 
 returns : tie.Need-returns
 unfolding registersPart
-returns c = got-fields _ _ (got-both (c .before .eight-at .ensures) refl (firsts-all (c .each-register-at .ensures)))
+returns c = got-fields _ _ (got-both (c .before .count-at .ensures) refl (firsts-all (c .each-register-at .ensures)))
 
 pub registers-at-spec : {M : Type 1} → statement M
 registers-at-spec = tie.close (tie.spec (λ c κs. let z = sizes in omega arith) (λ c. let z = sizes in omega arith) (λ c κs. let z = sizes in (omega arith, omega arith)) returns)

@@ -9,7 +9,7 @@ use Rattle.image.proofs.read.rows_at.Tie as tie
 
 returns : tie.Need-returns
 unfolding rowsPart
-returns c = got-fields _ _ (got-both (c .before .eight-at .ensures) refl (c .each-row-at .ensures))
+returns c = got-fields _ _ (got-both (c .before .count-at .ensures) refl (c .each-row-at .ensures))
 
 pub rows-at-spec : {M : Type 1} → statement M
 rows-at-spec = tie.close (tie.spec (λ c κs. let z = sizes in omega arith) (λ c. let z = sizes in omega arith) (λ c κs. let z = sizes in omega arith) returns)

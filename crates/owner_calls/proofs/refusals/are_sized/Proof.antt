@@ -1,8 +1,7 @@
--- `owner_calls::lent::are_sized` meets its contract: the lengths in their order.
+-- `owner_calls::refusals::are_sized` meets its contract: the lengths in their order.
 use borrow.Author.Tests.{eq-eqb, ne-eqb}
-use borrow.Author.Needs.{needs}
-use Rattle.owner_calls.proofs.lent.are_sized.Statement.{statement}
-use Rattle.owner_calls.proofs.lent.are_sized.Tie as tie
+use Rattle.owner_calls.proofs.refusals.are_sized.Statement.{statement}
+use Rattle.owner_calls.proofs.refusals.are_sized.Tie as tie
 
 returns : tie.Need-returns
 returns c = rw (ne-eqb _ _ (c .if1 .taken))
