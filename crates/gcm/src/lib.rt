@@ -2,7 +2,8 @@
 // once and used as often as it is wanted. Nonces and tags have twelve bytes. No function here has a `requires`.
 ghost use mathlib.Core.Path.{_≡_};
 ghost use Rattle.ghash.specs.Product.{num};
-ghost use Rattle.gcm.specs.Gcm.{hashKey, bitLength, authenticated, tag, authentic, sameBytes, «gmac» as gmacOf, «ready» as readyOf};
+ghost use Rattle.wire.specs.Reading.{sameBytes};
+ghost use Rattle.gcm.specs.Gcm.{hashKey, bitLength, authenticated, tag, authentic, «gmac» as gmacOf, «ready» as readyOf};
 ghost use Rattle.gcm.specs.Calls.{under, keyOf, Sealed, SealedPart, Opened, bytesFrom};
 use aes::RoundKey;
 use ghash::Block;
