@@ -1,6 +1,6 @@
 -- The loop over an array's elements that writes each. Over any part; the loops that read and test each are image's.
 use mathlib.Core.Path.{_≡_, sym, ap, ap₂, _∙_}
-use mathlib.Core.List.{List, [], _∷_, _++_, flatMap, append-assoc, append-nil}
+use mathlib.Core.List.{List, [], _∷_, _++_, flatMap}
 use Prim.Native.Nat.{ℕ, _+_, _*_, _≤_, _<_}
 use native.Mathlib.Nat.{zero-mul, suc-mul}
 use native.Mathlib.Numerals.{add-one}
@@ -8,6 +8,7 @@ use native.Mathlib.Omega.{arith}
 use lib.ListN.{length, take, getD, length-append}
 use lib.Seq.{take-suc, take-all}
 use Rattle.wire.specs.Wrote.{Wrote}
+use Rattle.wire_write.proofs.FlatLaws.{flat-more}
 use Rattle.wire_write.proofs.WroteLaws.{then, nothing}
 use Rattle.image.specs.Codec.{Codec, Each, none, more, many}
 use Rattle.image.proofs.LoopLaws.{room-more}
@@ -25,11 +26,6 @@ each-more : {A : Type 0} {P : A → Type 0} {xs : List A} {x : A} → Each P xs 
 each-more none h = more h none
 each-more (more k ks) h = more k (each-more ks h)
 
-flat-last : {A : Type 0} (f : A → List ℕ) (xs : List A) (x : A) → flatMap f (xs ++ (x ∷ [])) ≡ flatMap f xs ++ f x
-unfolding flatMap
-flat-last f [] x = append-nil (f x)
-flat-last f (y ∷ ys) x = ap (λ (t : List ℕ). f y ++ t) (flat-last f ys x) ∙ sym (append-assoc (f y) (flatMap f ys) (f x))
-
 module _ {A : Type 0} {c : Codec A} {n : ℕ} {xs : List A} {l : List ℕ} {at : ℕ} where
   pub putting-none : length xs ≡ n → at ≤ length l → Putting c n xs l at l at 0
   unfolding flatMap
@@ -39,7 +35,7 @@ module _ {A : Type 0} {c : Codec A} {n : ℕ} {xs : List A} {l : List ℕ} {at :
   putting-more {i = i} d p h w =
       let x = getD xs i d in
       let t : take (i + 1) xs ≡ take i xs ++ (x ∷ []) = rw add-one (take-suc xs i d (omega (arith, p .full))) in
-      let f : flatMap (c .bytes) (take (i + 1) xs) ≡ flatMap (c .bytes) (take i xs) ++ c .bytes x = ap (flatMap (c .bytes)) t ∙ flat-last (c .bytes) (take i xs) x in
+      let f = flat-more (c .bytes) xs i d (omega (arith, p .full)) in
       record {
         below = omega arith;
         full = p .full;
