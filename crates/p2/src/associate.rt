@@ -10,9 +10,6 @@ use line::LineState;
 use model::CipherClient;
 use model::Client;
 use protocol::Secrets;
-ghost use mathlib.Core.Path.{_≡_};
-ghost use lib.ListN.{replicate};
-ghost use Rattle.wire.specs.Reading.{filled};
 ghost use Rattle.model.specs.declared.Client.the-variants.{Ciphering};
 ghost use Rattle.acse.specs.Aarq.{readAarq};
 ghost use Rattle.acse.specs.Initiate.{readRequest};
@@ -40,14 +37,14 @@ pub fn associate(
     let aarq = acse::read_aarq(apdu, client, &title);
     match aarq {
         Aarq::Plain { services } => {
-            let proposed = three_at(apdu, services);
+            let proposed = wire::three_at(apdu, services);
             accept_from(line, client, head, proposed, out)
         }
         Aarq::Ciphered {
             challenge,
             envelope,
         } => {
-            let theirs = eight_at(apdu, challenge);
+            let theirs = wire::eight_at(apdu, challenge);
             open_from(line, secrets, client, head, theirs, &apdu[envelope..], out)
         }
         Aarq::Departs => reject_aarq(line, client, head, out),
@@ -175,8 +172,8 @@ fn initiate(
     let request = acse::read_request(text);
     match request {
         InitiateRequest::Accepted { key, services } => {
-            let dedicated = sixteen_at(text, key);
-            let proposed = three_at(text, services);
+            let dedicated = wire::sixteen_at(text, key);
+            let proposed = wire::three_at(text, services);
             accept_ciphered(
                 line,
                 secrets,
@@ -234,29 +231,4 @@ fn accept_ciphered(
         count,
         line: after,
     }
-}
-
-// The bytes at a place; zeros where there are fewer.
-fn three_at(s: &[u8], at: usize) -> [u8; 3]
-    ensures { λ r. ⌜ r ≡ filled (now (s .entry)) at (replicate 3 0) ⌝ }
-{
-    let mut bytes = [0u8; 3];
-    wire::fill_at(s, at, &mut bytes);
-    bytes
-}
-
-fn eight_at(s: &[u8], at: usize) -> [u8; 8]
-    ensures { λ r. ⌜ r ≡ filled (now (s .entry)) at (replicate 8 0) ⌝ }
-{
-    let mut bytes = [0u8; 8];
-    wire::fill_at(s, at, &mut bytes);
-    bytes
-}
-
-fn sixteen_at(s: &[u8], at: usize) -> [u8; 16]
-    ensures { λ r. ⌜ r ≡ filled (now (s .entry)) at (replicate 16 0) ⌝ }
-{
-    let mut bytes = [0u8; 16];
-    wire::fill_at(s, at, &mut bytes);
-    bytes
 }

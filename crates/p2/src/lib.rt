@@ -97,16 +97,10 @@ fn refused(refusal: u8, meter: Meter) -> Received
 fn secrets_of(guk: &[u8], ak: &[u8], challenge: &[u8]) -> Secrets
     ensures { λ r. ⌜ r ≡ secretsIn (now (guk .entry)) (now (ak .entry)) (now (challenge .entry)) ⌝ }
 {
-    let mut g = [0u8; 16];
-    wire::fill_at(guk, 0, &mut g);
-    let mut k = [0u8; 16];
-    wire::fill_at(ak, 0, &mut k);
-    let mut c = [0u8; 8];
-    wire::fill_at(challenge, 0, &mut c);
     Secrets {
-        guk: g,
-        ak: k,
-        challenge: c,
+        guk: wire::sixteen_at(guk, 0),
+        ak: wire::sixteen_at(ak, 0),
+        challenge: wire::eight_at(challenge, 0),
     }
 }
 

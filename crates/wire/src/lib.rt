@@ -6,7 +6,6 @@ mod read;
 pub use read::byte_at;
 pub use read::eight_at;
 pub use read::expect_at;
-pub use read::fill_at;
 pub use read::length_at;
 pub use read::same;
 pub use read::six_at;

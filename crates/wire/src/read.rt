@@ -5,7 +5,7 @@ ghost use mathlib.Core.Path.{_≡_};
 ghost use Prim.Native.Nat.{_+_, _≤_, _<_};
 ghost use lib.ListN.{length, take, drop, replicate};
 ghost use Rattle.wire.specs.Numbers.{numberHigh};
-ghost use Rattle.wire.specs.Reading.{atLeast, expected, filled, Filled, lengthAt, numberAt, sameBytes, skipped};
+ghost use Rattle.wire.specs.Reading.{atLeast, expected, filled, lengthAt, numberAt, sameBytes, skipped};
 
 // Whether two slices hold the same bytes.
 pub fn same(a: &[u8], b: &[u8]) -> bool
@@ -108,14 +108,6 @@ fn fill(s: &[u8], at: usize, out: &mut [u8])
         out[i] = s[at + i];
         i += 1;
     }
-}
-
-// The same, and the position after them.
-pub fn fill_at(s: &[u8], at: usize, out: &mut [u8]) -> End
-    ensures { λ r. ⌜ Filled (now (s .entry)) at (now (out .entry)) (now (out .exit)) r ⌝ }
-{
-    fill(s, at, out);
-    skip_at(s, at, out.len())
 }
 
 // A byte.
