@@ -65,25 +65,27 @@ fn outcome(s: &[u8], aad: &[u8], m: &[u8]) {
     }
 }
 
-// The text is laid out from place 5 of a buffer on and sealed there, and then opened from the middle of that buffer.
+// The text is laid out from place 5 of a buffer on and sealed there, as a part of the buffer that is lent.
 fn seal(k: ReadyKey, v: [u8; 12], aad: &[u8], plain: &[u8])
     requires { ⌜ length (now plain) ≤ 64 ⌝ }
 {
     let mut buf = [0x5au8; 128];
     let e = wire_write::put_all(&mut buf, 5, plain);
-    if gcm::seal_part(k, v, aad, &mut buf, 5, e) {
-        sealed(k, v, aad, &buf, e);
-    }
+    sealed(k, v, aad, &mut buf, e);
 }
 
-// The byte before the cipher text, cipher text, tag and the byte behind it; and what it opens to.
-fn sealed(k: ReadyKey, v: [u8; 12], aad: &[u8], buf: &[u8], e: usize)
-    requires { ⌜ e ≤ 69 ⌝ }
+// The byte before the cipher text, cipher text, tag and the byte behind the cipher text; and what it opens to from the middle of
+// the buffer.
+fn sealed(k: ReadyKey, v: [u8; 12], aad: &[u8], buf: &mut [u8], e: usize)
+    requires { ⌜ (5 ≤ e) × (e ≤ 69) × (69 ≤ length (now buf)) ⌝ }
 {
+    let t = gcm::seal(k, v, aad, &mut buf[5..e]);
     print(b"sealed ");
-    print_hex(between(buf, 4, e + 13));
+    print_hex(between(buf, 4, e));
+    print_hex(&t);
+    print_hex(between(buf, e, e + 1));
     print(b", ");
-    open(k, v, aad, between(buf, 5, e), between(buf, e, e + 12));
+    open(k, v, aad, between(buf, 5, e), &t);
 }
 
 fn open(k: ReadyKey, v: [u8; 12], aad: &[u8], c: &[u8], t: &[u8]) {

@@ -4,7 +4,7 @@ ghost use mathlib.Core.Path.{_≡_};
 ghost use Rattle.ghash.specs.Product.{num};
 ghost use Rattle.wire.specs.Reading.{sameBytes};
 ghost use Rattle.gcm.specs.Gcm.{hashKey, bitLength, authenticated, tag, authentic, «gmac» as gmacOf, «ready» as readyOf};
-ghost use Rattle.gcm.specs.Calls.{under, keyOf, Sealed, SealedPart, Opened, bytesFrom};
+ghost use Rattle.gcm.specs.Calls.{under, keyOf, Sealed, Opened, bytesFrom};
 use aes::RoundKey;
 use ghash::Block;
 
@@ -31,34 +31,6 @@ pub fn seal(key: ReadyKey, nonce: [u8; 12], aad: &[u8], text: &mut [u8]) -> [u8;
     let w = schedule_of(key);
     gctr::encipher(w, nonce, 2, text);
     tag_under(w, h, nonce, aad, text)
-}
-
-// Seals the part of buf from a to e where it stands, and writes the tag behind it. Answers whether buf has that part and the
-// room for the tag; where not, buf stays as it is.
-pub fn seal_part(
-    key: ReadyKey,
-    nonce: [u8; 12],
-    aad: &[u8],
-    buf: &mut [u8],
-    a: usize,
-    e: usize,
-) -> bool
-    ensures { λ r. ⌜ SealedPart (keyOf key) nonce (now (aad .entry)) a e (now (buf .entry)) (now (buf .exit)) r ⌝ }
-{
-    let n = buf.len();
-    if e < a {
-        return false;
-    }
-    if n < 12 {
-        return false;
-    }
-    if n - 12 < e {
-        return false;
-    }
-    let t = seal(key, nonce, aad, &mut buf[a..e]);
-    let end = e + 12;
-    bytes::copy(&t, &mut buf[e..end]);
-    true
 }
 
 // Opens the cipher text c with the tag t into out: where the tag is right and c fits into out, the plain text stands in the
