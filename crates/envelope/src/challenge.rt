@@ -1,7 +1,7 @@
 // The proofs of the challenge: the client's tested, the meter's made.
-use crate::ReadyKeys;
-use crate::material::nonce;
-use crate::material::proof_data;
+use material::ReadyKeys;
+use material::nonce;
+use material::proof_data;
 use model::Counters;
 use wire::End;
 use wire::Field;
@@ -9,7 +9,7 @@ ghost use mathlib.Core.Path.{_≡_};
 ghost use Prim.Native.Nat.{_+_, _≤_};
 ghost use lib.ListN.{length};
 ghost use Rattle.wire.specs.Wrote.{Wrote};
-ghost use Rattle.envelope.specs.Layout.{keysOf};
+ghost use Rattle.material.specs.Material.{keysOf};
 ghost use Rattle.envelope.specs.Challenge.{proofSize, proofValue, rightProof};
 
 // Whether a parameter's value is the proof of the client with this title over this challenge of the meter, in an envelope with

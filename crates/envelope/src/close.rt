@@ -1,14 +1,15 @@
 // Closing: the text stands in the buffer behind the room for its head. The head is written before it, the text is sealed where
 // it stands, and the GCM tag is written behind it.
-use crate::ReadyKeys;
-use crate::material::associated_data;
-use crate::material::nonce;
+use material::ReadyKeys;
+use material::associated_data;
+use material::nonce;
 ghost use mathlib.Core.Path.{_≡_};
 ghost use Prim.Native.Nat.{_+_, _≤_};
 ghost use lib.ListN.{drop, length, take};
 ghost use Rattle.wire.specs.Wrote.{Wrote};
 ghost use Rattle.model.specs.Limits.{envelopeLength};
-ghost use Rattle.envelope.specs.Layout.{countedLength, head, headSize, keysOf, sealedEnvelope};
+ghost use Rattle.material.specs.Material.{keysOf};
+ghost use Rattle.envelope.specs.Layout.{countedLength, head, headSize, sealedEnvelope};
 
 // How many bytes stand before a text of `n` bytes.
 pub fn head_size(n: usize) -> usize

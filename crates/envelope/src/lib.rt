@@ -1,27 +1,19 @@
 // Ciphered APDUs: envelopes opened and closed, and the proofs of the challenge (document 01, "The envelope and its counters").
-// specs/Layout, specs/Opening and specs/Challenge say what each function means; keys and titles are given by the caller.
+// specs/Layout, specs/Opening and specs/Challenge say what each function means; keys, made ready by `material`, and titles are
+// given by the caller.
 mod challenge;
 mod close;
-mod material;
 mod open;
 
 pub use challenge::is_right_proof;
 pub use challenge::put_proof;
 pub use close::close_envelope;
 pub use close::head_size;
-use gcm::ReadyKey;
-pub use material::ready_keys;
 pub use open::admit_envelope;
 pub use open::open_envelope;
 
 // The longest APDU that a frame brings: a room for any plain text has this size.
 pub const LONGEST_APDU: usize = 765;
-
-// The keys that envelopes go under, made ready: "GUK" or the dedicated key of the association, and "AK".
-pub struct ReadyKeys {
-    pub key: ReadyKey,
-    pub ak: [u8; 16],
-}
 
 // What an APDU comes to: no envelope, or not one sealed under these keys; or the counter and the size of the plain text.
 pub enum Opening {

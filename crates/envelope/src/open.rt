@@ -3,15 +3,15 @@
 use crate::Admission;
 use crate::LONGEST_APDU;
 use crate::Opening;
-use crate::ReadyKeys;
 use crate::Shape;
-use crate::material::associated_data;
-use crate::material::nonce;
+use material::ReadyKeys;
+use material::associated_data;
+use material::nonce;
 use model::Counters;
 use wire::End;
 use wire::Field;
 ghost use mathlib.Core.Path.{_≡_};
-ghost use Rattle.envelope.specs.Layout.{keysOf};
+ghost use Rattle.material.specs.Material.{keysOf};
 ghost use Rattle.envelope.specs.Opening.{AdmittedInto, opened, OpenedInto, shapeFrom, shapeOf};
 
 // Opens the APDU, which is to have this tag, into `out`; where it does not open, `out` stays as it is. An APDU has no more

@@ -2,7 +2,7 @@
 use mathlib.Core.Path.{refl}
 use native.Mathlib.Omega.{arith}
 use borrow.Author.Needs.{needs}
-use Rattle.envelope.specs.Layout.{keysOf}
+use Rattle.material.specs.Material.{keysOf}
 use Rattle.envelope.proofs.CloseLaws.{envelope-size, length-head, tag-room, closes}
 use Rattle.envelope.proofs.close.close_envelope.Statement.{statement}
 use Rattle.envelope.proofs.close.close_envelope.Tie as tie

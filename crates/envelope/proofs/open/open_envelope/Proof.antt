@@ -5,7 +5,7 @@ use mathlib.Core.Bool.{true, false}
 use lib.ListN.{length}
 use native.Mathlib.Omega.{arith}
 use borrow.Author.Needs.{needs}
-use Rattle.envelope.specs.Layout.{keysOf}
+use Rattle.material.specs.Material.{keysOf}
 use Rattle.envelope.specs.Opening.{longestApdu}
 use Rattle.envelope.proofs.ShapeLaws.{longest-apdu, places-of}
 use Rattle.envelope.proofs.OpenLaws.{no-shape, handed, right-tag, wrong-tag}

@@ -1,9 +1,9 @@
--- `envelope::material::ready_keys` meets its contract: GCM makes the key ready.
+-- `material::ready_keys` meets its contract: GCM makes the key ready.
 use borrow.Author.Needs.{needs}
 use mathlib.Core.Path.{ap}
 use Rattle.gcm.specs.Gcm.{Key}
-use Rattle.envelope.proofs.material.ready_keys.Statement.{statement}
-use Rattle.envelope.proofs.material.ready_keys.Tie as tie
+use Rattle.material.proofs.ready_keys.Statement.{statement}
+use Rattle.material.proofs.ready_keys.Tie as tie
 
 returns : tie.Need-returns
 returns c = ap (λ (k : Key). record { key = k; ak = c .before .args .ak }) (c .ready .ensures)

@@ -1,8 +1,14 @@
-// What GCM is given besides the text: the keys, the nonce, the associated data.
-use crate::ReadyKeys;
+// What GCM is given besides the text: keys made ready, nonce, associated data of an envelope and of a proof (document 01, "The
+// envelope and its counters"). No function here has a `requires`.
+use gcm::ReadyKey;
 ghost use mathlib.Core.Path.{_≡_};
-ghost use Rattle.envelope.specs.Layout.{associatedData, keysFrom, keysOf, «nonce» as nonceOf};
-ghost use Rattle.envelope.specs.Challenge.{proofData};
+ghost use Rattle.material.specs.Material.{associatedData, keysFrom, keysOf, «nonce» as nonceOf, proofData};
+
+// The keys that envelopes go under, made ready: "GUK" or the dedicated key of the association, and "AK".
+pub struct ReadyKeys {
+    pub key: ReadyKey,
+    pub ak: [u8; 16],
+}
 
 // Makes keys ready.
 pub fn ready_keys(key: [u8; 16], ak: [u8; 16]) -> ReadyKeys
