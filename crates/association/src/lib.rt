@@ -10,11 +10,11 @@ pub use change::with_counters;
 pub use change::with_link;
 use cosem::ServiceKind;
 use cosem::Tag;
-use envelope::ReadyKeys;
 use line::CipherParty;
 use line::LineState;
 use line::Party;
 use line::Phase;
+use material::ReadyKeys;
 use model::CipherClient;
 use model::Client;
 use model::Counters;
@@ -23,7 +23,7 @@ ghost use mathlib.Core.Path.{_≡_};
 ghost use mathlib.Core.List.{List};
 ghost use Prim.Native.Nat.{ℕ};
 ghost use Rattle.model.specs.State.{none, «pending» as pendingWith, associated};
-ghost use Rattle.envelope.specs.Layout.{keysOf};
+ghost use Rattle.material.specs.Material.{keysOf};
 ghost use Rattle.line.specs.View.{cipherOf, cipheringOf, lineOf};
 ghost use Rattle.protocol.specs.Clients.{agreedIn, bitAgreed, clientChallenge, counters, dedicatedKeys, held, isUnknown, keyIn, lentKeys, mayAskEnclosed, mayAskPlain, meterChallenge, peer, permitted, selectiveIn, serviceAgreed};
 ghost use Rattle.protocol.specs.Decide.{heldByP5};
@@ -222,7 +222,7 @@ pub fn lent_keys(secrets: Secrets) -> ReadyKeys
 {
     let guk = secrets.guk;
     let ak = secrets.ak;
-    envelope::ready_keys(guk, ak)
+    material::ready_keys(guk, ak)
 }
 
 // The keys around requests and their answers, made ready.
@@ -231,7 +231,7 @@ pub fn dedicated_keys(ak: [u8; 16], line: LineState, client: CipherClient) -> Re
 {
     let h = cipher_of(line, client);
     let dedicated = key_in(h);
-    envelope::ready_keys(dedicated, ak)
+    material::ready_keys(dedicated, ak)
 }
 
 // The client's party.

@@ -104,7 +104,7 @@ fn plain(right: bool, counter: u32) -> Letter {
 
 // The envelope opens, and its counter is a new one.
 fn opened(accepted: u32, tag: u8, apdu: &[u8]) -> Letter {
-    let keys = envelope::ready_keys(key(tag), play::AK);
+    let keys = material::ready_keys(key(tag), play::AK);
     let mut text = [0u8; 765];
     match envelope::admit_envelope(
         keys,

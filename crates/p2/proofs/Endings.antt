@@ -27,7 +27,8 @@ use Rattle.hdlc.specs.Replies.{apduFrame, Sent}
 use Rattle.hdlc_write.proofs.ReplyLaws.{length-apdu}
 use Rattle.cosem.specs.Tags.{answerTag}
 use Rattle.acse.specs.Clients.{ciphers}
-use Rattle.envelope.specs.Layout.{Keys, sealedEnvelope}
+use Rattle.material.specs.Material.{Keys}
+use Rattle.envelope.specs.Layout.{sealedEnvelope}
 use Rattle.envelope.proofs.CloseLaws.{envelope-size, length-envelope}
 use Rattle.answers.specs.declared.Answered.{Answered as BodyAnswer}
 use Rattle.answers.specs.Promise.{Turns}

@@ -15,7 +15,7 @@ use Rattle.envelope.specs.declared.Opening.{Opening}
 use Rattle.envelope.specs.declared.Opening.the-variants.{Fails, Opens}
 use Rattle.envelope.specs.declared.Admission.{Admission}
 use Rattle.envelope.specs.declared.Admission.the-variants.{Unopened, OutsideWindow, Admitted}
-use Rattle.envelope.specs.Layout.{Keys}
+use Rattle.material.specs.Material.{Keys}
 use Rattle.envelope.specs.Opening.{Opened, fails, opens, opened, OpenedInto, AdmittedInto}
 use Rattle.envelope.proofs.AdmitLaws.{opened-not, opened-text, unopened-of, outside-of, admitted-of}
 use Rattle.cosem.specs.declared.Asked.{Asked}

@@ -16,8 +16,8 @@ use Rattle.model.specs.Demand3.{Gave}
 use Rattle.hdlc.specs.declared.Head.{Head}
 use Rattle.cosem.specs.declared.Exception.{Exception}
 use Rattle.cosem.specs.Tags.{exceptionBytes}
-use Rattle.envelope.specs.declared.ReadyKeys.{ReadyKeys}
-use Rattle.envelope.specs.Layout.{keysOf}
+use Rattle.material.specs.declared.ReadyKeys.{ReadyKeys}
+use Rattle.material.specs.Material.{keysOf}
 use Rattle.line.specs.declared.LineState.{LineState}
 use Rattle.line.specs.View.{lineOf}
 use Rattle.body.specs.declared.BodyState.{BodyState}

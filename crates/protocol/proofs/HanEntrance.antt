@@ -41,7 +41,8 @@ use Rattle.acse.proofs.LaidLaws.{written}
 use Rattle.acse.proofs.AarqLaws.{ciphered-accepted, challenge-there, envelope-there, keyed-accepted, key-there, keyed-services-there}
 use Rattle.counters.specs.Advance.{taken}
 use Rattle.counters.specs.Window.{windowSize, inWindow, innerAllowed, accepting}
-use Rattle.envelope.specs.Layout.{Keys, sealedEnvelope}
+use Rattle.material.specs.Material.{Keys}
+use Rattle.envelope.specs.Layout.{sealedEnvelope}
 use Rattle.envelope.specs.Opening.{longestApdu}
 use Rattle.envelope.specs.Challenge.{proofValue, rightProof}
 use Rattle.envelope.proofs.StandsLaws.{expect-back}

@@ -49,7 +49,8 @@ use Rattle.acse.proofs.ServiceLaws.{length-common, length-offered}
 use Rattle.counters.specs.Advance.{taken}
 use Rattle.counters.specs.Window.{inWindow, accepting}
 use Rattle.hdlc.specs.Replies.{apduFrame}
-use Rattle.envelope.specs.Layout.{Keys, sealedEnvelope}
+use Rattle.material.specs.Material.{Keys}
+use Rattle.envelope.specs.Layout.{sealedEnvelope}
 use Rattle.envelope.specs.Opening.{Opened, fails, opens, opened}
 use Rattle.envelope.specs.Challenge.{proofValue}
 use Rattle.envelope.proofs.CloseLaws.{length-envelope, envelope-size, envelope-fits}

@@ -43,7 +43,8 @@ use Rattle.cosem.specs.Tags.{tagOf, tagIn, dedicatedTag, answerTag}
 use Rattle.cosem.specs.Requests.{optionalPart, readGet, readService, nameIn, requested}
 use Rattle.counters.specs.Advance.{nextCounter, taken}
 use Rattle.counters.specs.Window.{inWindow, accepting}
-use Rattle.envelope.specs.Layout.{Keys, head, sealedEnvelope}
+use Rattle.material.specs.Material.{Keys}
+use Rattle.envelope.specs.Layout.{head, sealedEnvelope}
 use Rattle.envelope.specs.Opening.{longestApdu, opens, opened}
 use Rattle.envelope.proofs.ShapeLaws.{longest-apdu}
 use Rattle.envelope.proofs.CloseLaws.{length-envelope, envelope-size, envelope-fits}

@@ -17,7 +17,7 @@ use Rattle.cosem.specs.declared.ServiceKind.{ServiceKind}
 use Rattle.cosem.specs.declared.ServiceKind.the-variants.{Get, Set, Action}
 pub use Rattle.line.specs.Canonical.{agreedIn, keyIn, clientChallenge, meterChallenge}
 use Rattle.acse.specs.Clients.{ciphers}
-use Rattle.envelope.specs.Layout.{Keys, keysFrom}
+use Rattle.material.specs.Material.{Keys, keysFrom}
 use Rattle.protocol.specs.declared.Secrets.{Secrets}
 
 -- A client's part of the line.

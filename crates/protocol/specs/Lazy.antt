@@ -41,7 +41,8 @@ use Rattle.acse.specs.Initiate.{initiateResponse}
 use Rattle.acse.specs.Aare.{plainAare, cipheredAareHead}
 use Rattle.counters.specs.Advance.{nextCounter}
 use Rattle.counters.specs.Window.{windowSize}
-use Rattle.envelope.specs.Layout.{Keys, keysFrom, sealedEnvelope}
+use Rattle.material.specs.Material.{Keys, keysFrom}
+use Rattle.envelope.specs.Layout.{sealedEnvelope}
 use Rattle.envelope.specs.Opening.{opens, opened}
 use Rattle.envelope.specs.Challenge.{proofValue}
 use Rattle.meter.specs.SameSecond.{nextRow}

@@ -14,7 +14,8 @@ use Rattle.hdlc.specs.Tests.{numberOf}
 use Rattle.cosem.specs.Tags.{exceptionBytes}
 use Rattle.cosem.specs.declared.Exception.the-variants.{ServiceUnknown}
 use Rattle.acse.specs.Aare.{rejectedAare}
-use Rattle.envelope.specs.Layout.{Keys, keysFrom, sealedEnvelope}
+use Rattle.material.specs.Material.{Keys, keysFrom}
+use Rattle.envelope.specs.Layout.{sealedEnvelope}
 use Rattle.envelope.specs.Challenge.{proofValue}
 use Rattle.envelope.specs.Opening.{openingRefusal, admissionRefusal}
 use Rattle.envelope.specs.declared.Opening.the-variants.{Fails}

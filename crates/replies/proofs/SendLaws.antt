@@ -18,7 +18,8 @@ use Rattle.hdlc_write.proofs.ReplyLaws.{apdu-framed, length-apdu}
 use Rattle.cosem.specs.Tags.{exceptionBytes}
 use Rattle.cosem.specs.declared.Exception.{Exception}
 use Rattle.cosem.specs.declared.Exception.the-variants.{ServiceNotAllowed, ServiceUnknown}
-use Rattle.envelope.specs.Layout.{Keys, countedLength, headSize, sealedEnvelope}
+use Rattle.material.specs.Material.{Keys}
+use Rattle.envelope.specs.Layout.{countedLength, headSize, sealedEnvelope}
 use Rattle.envelope.specs.Challenge.{proofValue}
 use Rattle.envelope.proofs.CloseLaws.{encloses, envelope-size, length-envelope}
 use Rattle.envelope.proofs.ProofLaws.{length-proof}

@@ -1,8 +1,8 @@
 // Replies in an envelope: the text is laid out behind the room for the head of its envelope, and sealed where it stands.
 use crate::APDU_AT;
 use crate::TEXT_AT;
-use envelope::ReadyKeys;
 use hdlc::Head;
+use material::ReadyKeys;
 use model::Client;
 ghost use mathlib.Core.List.{_++_};
 ghost use Prim.Native.Nat.{_+_, _≤_};
@@ -12,7 +12,8 @@ ghost use Rattle.model.specs.Objects.{actionAnswer, denied};
 ghost use Rattle.hdlc.specs.Replies.{apduFrame, Sent};
 ghost use Rattle.acse.specs.Aare.{cipheredAareHead};
 ghost use Rattle.acse.specs.Initiate.{initiateResponse};
-ghost use Rattle.envelope.specs.Layout.{headSize, keysOf, sealedEnvelope};
+ghost use Rattle.material.specs.Material.{keysOf};
+ghost use Rattle.envelope.specs.Layout.{headSize, sealedEnvelope};
 ghost use Rattle.protocol.specs.Rulings.{provedText};
 ghost use Rattle.replies.specs.Room.{HasRoom};
 

@@ -2,7 +2,7 @@
 use envelope::Admission;
 use envelope::LONGEST_APDU;
 use envelope::Opening;
-use envelope::ReadyKeys;
+use material::ReadyKeys;
 use model::Counters;
 use text::between;
 use text::byte;
@@ -151,7 +151,7 @@ fn window(s: &[u8]) {
 }
 
 fn keys(s: &[u8]) -> ReadyKeys {
-    envelope::ready_keys(bytes_16(s, 3), bytes_16(s, 4))
+    material::ready_keys(bytes_16(s, 3), bytes_16(s, 4))
 }
 
 fn title(s: &[u8]) -> [u8; 8] {

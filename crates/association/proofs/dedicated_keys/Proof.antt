@@ -3,7 +3,7 @@ use mathlib.Core.Path.{ap, _∙_}
 use mathlib.Core.List.{List}
 use Prim.Native.Nat.{ℕ}
 use Rattle.model.specs.State.{CipheringPeer}
-use Rattle.envelope.specs.Layout.{keysFrom}
+use Rattle.material.specs.Material.{keysFrom}
 use Rattle.protocol.specs.Clients.{keyIn}
 use Rattle.association.proofs.PartyLaws.{ciphering-of}
 use borrow.Author.Needs.{needs}

@@ -12,7 +12,7 @@ use Rattle.body.specs.View.{bodyOf, bodySound}
 use Rattle.meter.proofs.MeterLaws.{sound-is}
 use Rattle.model.specs.declared.Counters.{Counters}
 use Rattle.model.specs.State.{Association}
-use Rattle.envelope.specs.Layout.{keysFrom}
+use Rattle.material.specs.Material.{keysFrom}
 use Rattle.protocol.specs.Clients.{counters, keyIn, withCounters}
 use Rattle.protocol.proofs.LineLaws.{advanced-is, counted-counters, counted-held, counted-title}
 use Rattle.p2.proofs.Endings.{answer-short, counted-same, enclosed-sent, serves}

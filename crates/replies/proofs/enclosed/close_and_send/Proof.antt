@@ -3,7 +3,7 @@ use native.Mathlib.Omega.{arith}
 use borrow.Author.Needs.{needs}
 use Rattle.model.proofs.LimitFacts.{reply-room, apdu-room, text-room}
 use Rattle.envelope.proofs.CloseLaws.{envelope-fits, envelope-size}
-use Rattle.envelope.specs.Layout.{keysOf}
+use Rattle.material.specs.Material.{keysOf}
 use Rattle.replies.proofs.SendLaws.{closed, closed-end}
 use Rattle.replies.proofs.enclosed.close_and_send.Statement.{statement}
 use Rattle.replies.proofs.enclosed.close_and_send.Tie as tie

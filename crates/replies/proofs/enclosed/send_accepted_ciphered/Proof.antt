@@ -9,7 +9,7 @@ use Rattle.wire_write.proofs.WroteLaws.{then}
 use Rattle.acse.specs.Initiate.{initiateResponse}
 use Rattle.envelope.proofs.CloseLaws.{envelope-size}
 use Rattle.hdlc_write.proofs.ReplyLaws.{apdu-framed}
-use Rattle.envelope.specs.Layout.{keysOf}
+use Rattle.material.specs.Material.{keysOf}
 use Rattle.replies.proofs.SendLaws.{closed-around, closed-end, head-limits}
 use Rattle.replies.proofs.enclosed.send_accepted_ciphered.Statement.{statement}
 use Rattle.replies.proofs.enclosed.send_accepted_ciphered.Tie as tie

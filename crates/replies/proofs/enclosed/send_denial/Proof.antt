@@ -4,7 +4,7 @@ use Prim.Native.Nat.{ℕ, _+_}
 use borrow.Author.Needs.{needs}
 use Rattle.model.specs.Objects.{actionAnswer, denied}
 use Rattle.model.proofs.LimitFacts.{reply-room, text-room}
-use Rattle.envelope.specs.Layout.{keysOf}
+use Rattle.material.specs.Material.{keysOf}
 use Rattle.replies.proofs.SendLaws.{enclosed, head-limits}
 use Rattle.replies.proofs.enclosed.send_denial.Statement.{statement}
 use Rattle.replies.proofs.enclosed.send_denial.Tie as tie

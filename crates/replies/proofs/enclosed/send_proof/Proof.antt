@@ -6,7 +6,7 @@ use borrow.Author.Needs.{needs}
 use Rattle.model.proofs.LimitFacts.{reply-room, text-room}
 use Rattle.wire_write.proofs.WroteLaws.{then}
 use Rattle.protocol.specs.Rulings.{provedText}
-use Rattle.envelope.specs.Layout.{keysOf}
+use Rattle.material.specs.Material.{keysOf}
 use Rattle.replies.proofs.SendLaws.{enclosed, head-limits, length-proved}
 use Rattle.replies.proofs.enclosed.send_proof.Statement.{statement}
 use Rattle.replies.proofs.enclosed.send_proof.Tie as tie
