@@ -91,19 +91,19 @@ fn sealed(k: ReadyKey, v: [u8; 12], aad: &[u8], buf: &mut [u8], e: usize)
 fn open(k: ReadyKey, v: [u8; 12], aad: &[u8], c: &[u8], t: &[u8]) {
     let mut out = [0x5au8; 128];
     if gcm::open_into(k, v, aad, c, t, &mut out) {
-        return opened(first(&out, c.len()));
+        return print_opened(first(&out, c.len()));
     }
-    refused(&out);
+    print_refused(&out);
 }
 
 // The plain text, or `-` where it is empty.
-fn opened(plain: &[u8]) {
+fn print_opened(plain: &[u8]) {
     print(field(b"opened |opened -", if plain.len() == 0 { 1 } else { 0 }));
     print_hex(plain);
 }
 
 // A mark, where the buffer for the plain text has not kept its bytes.
-fn refused(out: &[u8]) {
+fn print_refused(out: &[u8]) {
     print(field(
         b"refused !|refused",
         if text::all_are(out, 0x5a) { 1 } else { 0 },

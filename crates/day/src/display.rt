@@ -88,7 +88,7 @@ fn ended(counter: u32, tag: u8, rest: &[u8], wanted: &[u8]) -> Letter {
     if rest.len() == 0 {
         return plain(tag == 0, counter);
     }
-    compared(opened(counter, tag, before_check(rest)), wanted)
+    compared(letter_in(counter, tag, before_check(rest)), wanted)
 }
 
 fn plain(right: bool, counter: u32) -> Letter {
@@ -103,7 +103,7 @@ fn plain(right: bool, counter: u32) -> Letter {
 }
 
 // The envelope opens, and its counter is a new one.
-fn opened(accepted: u32, tag: u8, apdu: &[u8]) -> Letter {
+fn letter_in(accepted: u32, tag: u8, apdu: &[u8]) -> Letter {
     let keys = material::ready_keys(key(tag), play::AK);
     let mut text = [0u8; 765];
     match envelope::admit_envelope(

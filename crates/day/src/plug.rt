@@ -67,11 +67,11 @@ pub fn lent(mut s: Scene, l: &[u8]) -> Scene {
 pub fn asked(s: Scene, l: &[u8]) -> Scene {
     let mut frame = [0u8; LONGEST];
     let n = text::bytes(l, 2, &mut frame);
-    answered(s, l, part(&frame, n))
+    put_to_both(s, l, part(&frame, n))
 }
 
 // A line tells what came of it.
-fn answered(mut s: Scene, l: &[u8], frame: &[u8]) -> Scene {
+fn put_to_both(mut s: Scene, l: &[u8], frame: &[u8]) -> Scene {
     let challenge = s.challenge;
     let a = put(s.meter, challenge, frame);
     let b = put(s.twin, challenge, frame);

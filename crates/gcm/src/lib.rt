@@ -4,7 +4,7 @@ ghost use mathlib.Core.Path.{_≡_};
 ghost use Rattle.ghash.specs.Product.{num};
 ghost use Rattle.wire.specs.Reading.{sameBytes};
 ghost use Rattle.gcm.specs.Gcm.{hashKey, bitLength, authenticated, tag, authentic, «gmac» as gmacOf, «ready» as readyOf};
-ghost use Rattle.gcm.specs.Calls.{under, keyOf, Sealed, Opened, bytesFrom};
+ghost use Rattle.gcm.specs.Calls.{under, keyOf, Sealed, Unsealed, bytesFrom};
 use aes::RoundKey;
 use ghash::Block;
 
@@ -43,7 +43,7 @@ pub fn open_into(
     t: &[u8],
     out: &mut [u8],
 ) -> bool
-    ensures { λ r. ⌜ Opened (keyOf key) nonce (now (aad .entry)) (now (c .entry)) (now (t .entry)) (now (out .entry)) (now (out .exit)) r ⌝ }
+    ensures { λ r. ⌜ Unsealed (keyOf key) nonce (now (aad .entry)) (now (c .entry)) (now (t .entry)) (now (out .entry)) (now (out .exit)) r ⌝ }
 {
     let n = c.len();
     if out.len() < n {

@@ -12,7 +12,7 @@ use Rattle.model.specs.declared.Client.{Client}
 use Rattle.hdlc.specs.Layout.{snrm, disc, ui, byte, lengthOf, headOf, informationOf}
 use Rattle.hdlc.specs.Addresses.{senderOf, isKnown}
 use Rattle.hdlc.specs.Tests.{meterSide, AllPass, FirstOf, firstFailing, frameTests, numberOf, layoutTests, checkTests, headerTests, controlTests}
-use Rattle.hdlc.specs.Reading.{accepted, answered, readFrame, refused}
+use Rattle.hdlc.specs.Reading.{acceptedFrame, judgedFrame, readFrame, refusedFrame}
 use Rattle.hdlc.specs.declared.Frame.{Frame}
 use Rattle.hdlc.specs.declared.Frame.the-variants.{Unanswered, Rejected, LinkUp, LinkDown, Apdu}
 use Rattle.hdlc.specs.declared.FrameTest.{FrameTest}
@@ -36,62 +36,62 @@ afterLayout = checkTests ++ afterChecks
 
 module _ (f : List ℕ) where
   -- the first failing test of all, and the sender
-  decided : {v : Verdict} → firstFailing meterSide frameTests f ≡ v → readFrame f ≡ answered f (senderOf (byte f 4)) v
+  decided : {v : Verdict} → firstFailing meterSide frameTests f ≡ v → readFrame f ≡ judgedFrame f (senderOf (byte f 4)) v
   unfolding readFrame
-  decided e = ap (answered f (senderOf (byte f 4))) e
+  decided e = ap (judgedFrame f (senderOf (byte f 4))) e
 
   pub read-short : length f < 9 → readFrame f ≡ Unanswered ShortFrame
-  unfolding refused
+  unfolding refusedFrame
   read-short h = decided (fails-first meterSide f ShortFrame (layoutTests ++ afterLayout) (lt-ltb (length f) 9 h))
 
   module _ (h : 9 ≤ length f) where
     long : firstFailing meterSide frameTests f ≡ firstFailing meterSide (layoutTests ++ afterLayout) f
     long = passes-first meterSide f ShortFrame (layoutTests ++ afterLayout) (le-ltb (length f) 9 h)
 
-    pub read-layout : {t : FrameTest} → firstFailing meterSide layoutTests f ≡ Failed t → readFrame f ≡ refused f t
+    pub read-layout : {t : FrameTest} → firstFailing meterSide layoutTests f ≡ Failed t → readFrame f ≡ refusedFrame f t
     read-layout e = decided (long ∙ fails-here meterSide f layoutTests afterLayout e)
 
     module _ (l : firstFailing meterSide layoutTests f ≡ Passed) where
       laid : firstFailing meterSide frameTests f ≡ firstFailing meterSide afterLayout f
       laid = long ∙ passes-here meterSide f layoutTests afterLayout l
 
-      pub read-checks : {t : FrameTest} → firstFailing meterSide checkTests f ≡ Failed t → readFrame f ≡ refused f t
+      pub read-checks : {t : FrameTest} → firstFailing meterSide checkTests f ≡ Failed t → readFrame f ≡ refusedFrame f t
       read-checks e = decided (laid ∙ fails-here meterSide f checkTests afterChecks e)
 
       module _ (k : firstFailing meterSide checkTests f ≡ Passed) where
         checked : firstFailing meterSide frameTests f ≡ firstFailing meterSide afterChecks f
         checked = laid ∙ passes-here meterSide f checkTests afterChecks k
 
-        pub read-header : {t : FrameTest} → firstFailing meterSide headerTests f ≡ Failed t → readFrame f ≡ refused f t
+        pub read-header : {t : FrameTest} → firstFailing meterSide headerTests f ≡ Failed t → readFrame f ≡ refusedFrame f t
         read-header e = decided (checked ∙ fails-here meterSide f headerTests afterHeader e)
 
         module _ (j : firstFailing meterSide headerTests f ≡ Passed) where
           headed : firstFailing meterSide frameTests f ≡ firstFailing meterSide afterHeader f
           headed = checked ∙ passes-here meterSide f headerTests afterHeader j
 
-          pub read-unknown : senderOf (byte f 4) ≡ Unknown → readFrame f ≡ refused f WrongSource
+          pub read-unknown : senderOf (byte f 4) ≡ Unknown → readFrame f ≡ refusedFrame f WrongSource
           read-unknown e = decided (headed ∙ fails-first meterSide f WrongSource controlTests (ap (λ s. not (isKnown s)) e))
 
-          pub read-known : (c : Client) → senderOf (byte f 4) ≡ Known c → readFrame f ≡ answered f (Known c) (firstFailing meterSide controlTests f)
+          pub read-known : (c : Client) → senderOf (byte f 4) ≡ Known c → readFrame f ≡ judgedFrame f (Known c) (firstFailing meterSide controlTests f)
           read-known c e =
-              decided (headed ∙ passes-first meterSide f WrongSource controlTests (ap (λ s. not (isKnown s)) e)) ∙ ap (λ s. answered f s (firstFailing meterSide controlTests f)) e
+              decided (headed ∙ passes-first meterSide f WrongSource controlTests (ap (λ s. not (isKnown s)) e)) ∙ ap (λ s. judgedFrame f s (firstFailing meterSide controlTests f)) e
 
 -- What an accepted frame is, by its control.
 module _ (f : List ℕ) (c : Client) where
-  pub accepted-up : byte f 5 ≡ snrm → accepted c f ≡ LinkUp c (headOf f) (ltb 0 (length (informationOf f)))
-  unfolding accepted
+  pub accepted-up : byte f 5 ≡ snrm → acceptedFrame c f ≡ LinkUp c (headOf f) (ltb 0 (length (informationOf f)))
+  unfolding acceptedFrame
   accepted-up e = rw (eq-eqb (byte f 5) snrm e)
 
-  pub accepted-down : byte f 5 ≡ disc → accepted c f ≡ LinkDown c (headOf f)
-  unfolding accepted
+  pub accepted-down : byte f 5 ≡ disc → acceptedFrame c f ≡ LinkDown c (headOf f)
+  unfolding acceptedFrame
   accepted-down e = rw (ne-eqb (byte f 5) snrm (λ q. omega arith), eq-eqb (byte f 5) disc e)
 
-  pub accepted-apdu : byte f 5 ≡ ui → accepted c f ≡ Apdu c (headOf f) 11 (length f - 3)
-  unfolding accepted
+  pub accepted-apdu : byte f 5 ≡ ui → acceptedFrame c f ≡ Apdu c (headOf f) 11 (length f - 3)
+  unfolding acceptedFrame
   accepted-apdu e = rw (ne-eqb (byte f 5) snrm (λ q. omega arith), ne-eqb (byte f 5) disc (λ q. omega arith))
 
 -- a frame of a client with a control, that passes every test
-pub record Accepted (c : Client) (control : ℕ) (f : List ℕ) : Type 0 where
+pub record AcceptedFrame (c : Client) (control : ℕ) (f : List ℕ) : Type 0 where
   pub passes : AllPass meterSide f frameTests
   pub source : senderOf (byte f 4) ≡ Known c
   pub command : byte f 5 ≡ control
@@ -107,13 +107,13 @@ pub record Carried (f : List ℕ) (start end : ℕ) : Type 0 where
 abbrev pub Told : List ℕ → Frame → Type 0
 Told f (Unanswered t) = (numberOf t < 8) × FirstOf meterSide frameTests f t
 Told f (Rejected t h) = (8 ≤ numberOf t) × FirstOf meterSide frameTests f t × (h ≡ headOf f)
-Told f (LinkUp c h i) = Accepted c snrm f × (h ≡ headOf f) × (i ≡ ltb 0 (length (informationOf f)))
-Told f (LinkDown c h) = Accepted c disc f × (h ≡ headOf f)
-Told f (Apdu c h start end) = Accepted c ui f × (h ≡ headOf f) × Carried f start end
+Told f (LinkUp c h i) = AcceptedFrame c snrm f × (h ≡ headOf f) × (i ≡ ltb 0 (length (informationOf f)))
+Told f (LinkDown c h) = AcceptedFrame c disc f × (h ≡ headOf f)
+Told f (Apdu c h start end) = AcceptedFrame c ui f × (h ≡ headOf f) × Carried f start end
 
 module _ (f : List ℕ) where
-  refused-told : (t : FrameTest) → FirstOf meterSide frameTests f t → Told f (refused f t)
-  unfolding refused
+  refused-told : (t : FrameTest) → FirstOf meterSide frameTests f t → Told f (refusedFrame f t)
+  unfolding refusedFrame
   refused-told t n =
       by-test (ltb (numberOf t) 8) (λ e. rw e (ltb-true (numberOf t) 8 e, n)) (λ e. rw e (ltb-false (numberOf t) 8 e, n, refl))
 
@@ -127,10 +127,10 @@ module _ (f : List ℕ) where
       let n = information-length f in
       record { first = refl; last = omega arith; some = omega arith; most = omega arith }
 
-  accepted-told : (c : Client) → AllPass meterSide f frameTests → senderOf (byte f 4) ≡ Known c → Told f (accepted c f)
+  accepted-told : (c : Client) → AllPass meterSide f frameTests → senderOf (byte f 4) ≡ Known c → Told f (acceptedFrame c f)
   accepted-told c p s =
       let known = passes-in meterSide f (take 14 frameTests) (drop 15 frameTests) UnknownControl p in
-      let with : (k : ℕ) → byte f 5 ≡ k → Accepted c k f = λ k e. record { passes = p; source = s; command = e } in
+      let with : (k : ℕ) → byte f 5 ≡ k → AcceptedFrame c k f = λ k e. record { passes = p; source = s; command = e } in
       by-test (eqb (byte f 5) snrm)
       (λ e. let q = eqb-true (byte f 5) snrm e in rw (accepted-up f c q) (with snrm q, refl, refl))
       (λ e.
@@ -145,7 +145,7 @@ module _ (f : List ℕ) where
   unfolding readFrame
   read-told = go (firstFailing meterSide frameTests f) refl (senderOf (byte f 4)) refl
     where
-      go : (v : Verdict) → firstFailing meterSide frameTests f ≡ v → (s : Sender) → senderOf (byte f 4) ≡ s → Told f (answered f s v)
+      go : (v : Verdict) → firstFailing meterSide frameTests f ≡ v → (s : Sender) → senderOf (byte f 4) ≡ s → Told f (judgedFrame f s v)
       go (Failed t) e s q = refused-told t (names-first meterSide f frameTests e)
       go Passed e (Known c) q = accepted-told c (all-pass meterSide f frameTests e) q
       go Passed e Unknown q =

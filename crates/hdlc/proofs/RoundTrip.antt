@@ -24,7 +24,7 @@ use Rattle.hdlc.specs.Layout.{flag, ui, byte, formatOf, lengthOf, headOf
 use Rattle.hdlc.specs.Addresses.{meterAddress, addressOf, senderOf, isKnown}
 use Rattle.hdlc.specs.Tests.{Side, fails, frameTests, firstFailing, AllPass, none, more, meterSide, clientSide, requestLlc}
 use Rattle.hdlc.specs.declared.FrameTest.the-variants.{ShortFrame, FlagMissing, FrameType, LengthMismatch, LengthEightOrNine, WrongFcs, WrongHcs, EvenAddress, FrmrReceived, OverLength, SegmentBit, PfClear, WrongDestination, WrongSource, UnknownControl, LinkDownWithInformation, ShortInformation, WrongLlc}
-use Rattle.hdlc.specs.Reading.{answered, readFrame}
+use Rattle.hdlc.specs.Reading.{judgedFrame, readFrame}
 use Rattle.hdlc.specs.Replies.{dataFrame, apduFrame}
 use Rattle.hdlc.specs.declared.Frame.the-variants.{Apdu}
 use Rattle.hdlc.specs.declared.Head.{Head}
@@ -258,7 +258,7 @@ module _ (c : Client) (a : List ℕ) (some : 0 < length a) (fits : 3 + length a 
       let source : senderOf (byte f 4) ≡ Known c = ap (λ (h : Head). senderOf (h .source)) (b .head) ∙ known-address c in
       let passed = none-fails meterSide f (data-passes meterSide (addressOf c) a refl (odd-address c) (ap isKnown (known-address c)) refl some fits (omega arith)) in
       let n : length f - 3 ≡ 11 + length a = omega (arith, request-length) in
-      ap₂ (answered f) source passed
+      ap₂ (judgedFrame f) source passed
       ∙ accepted-apdu f c (ap (λ (h : Head). h .control) (b .head))
       ∙ ap₂ (λ (h : Head) (e : ℕ). Apdu c h 11 e) (b .head) n
 

@@ -20,22 +20,22 @@ use Rattle.hdlc.specs.declared.Verdict.{Verdict}
 use Rattle.hdlc.specs.declared.Verdict.the-variants.{Failed, Passed}
 
 -- refused by a test: nothing goes out for refusals 4 and 5, FRMR for 8 and 9
-unfoldable pub refused : List ℕ → FrameTest → Frame
-refused f t = cond (ltb (numberOf t) 8) (Unanswered t) (Rejected t (headOf f))
+unfoldable pub refusedFrame : List ℕ → FrameTest → Frame
+refusedFrame f t = cond (ltb (numberOf t) 8) (Unanswered t) (Rejected t (headOf f))
 
 -- a frame that passed every test: "93 link up, 53 link down, 13 carries an APDU", which stands after LLC and before the FCS
-unfoldable pub accepted : Client → List ℕ → Frame
-accepted c f =
+unfoldable pub acceptedFrame : Client → List ℕ → Frame
+acceptedFrame c f =
     cond (eqb (byte f 5) snrm) (LinkUp c (headOf f) (ltb 0 (length (informationOf f))))
     (cond (eqb (byte f 5) disc) (LinkDown c (headOf f))
     (Apdu c (headOf f) 11 (length f - 3)))
 
 -- by the sender and what the tests came to. That the source is known is one of the tests, so an unknown one never passes.
-abbrev pub answered : List ℕ → Sender → Verdict → Frame
-answered f s (Failed t) = refused f t
-answered f (Known c) Passed = accepted c f
-answered f Unknown Passed = refused f WrongSource
+abbrev pub judgedFrame : List ℕ → Sender → Verdict → Frame
+judgedFrame f s (Failed t) = refusedFrame f t
+judgedFrame f (Known c) Passed = acceptedFrame c f
+judgedFrame f Unknown Passed = refusedFrame f WrongSource
 
 -- what a received frame is, for every byte string
 unfoldable pub readFrame : List ℕ → Frame
-readFrame f = answered f (senderOf (byte f 4)) (firstFailing meterSide frameTests f)
+readFrame f = judgedFrame f (senderOf (byte f 4)) (firstFailing meterSide frameTests f)

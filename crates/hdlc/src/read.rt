@@ -15,7 +15,7 @@ ghost use Rattle.wire.specs.Numbers.{numberLow};
 ghost use Rattle.hdlc.specs.Layout.{formatOf, headOf, informationOf};
 ghost use Rattle.hdlc.specs.Addresses.{senderOf};
 ghost use Rattle.hdlc.specs.Tests.{fails, firstFailing, meterSide, layoutTests, checkTests, headerTests, controlTests};
-ghost use Rattle.hdlc.specs.Reading.{answered, readFrame, refused};
+ghost use Rattle.hdlc.specs.Reading.{judgedFrame, readFrame, refusedFrame};
 ghost use Rattle.hdlc.specs.declared.FrameTest.the-variants.{WrongFcs, WrongHcs};
 ghost use Rattle.hdlc.specs.declared.Sender.the-variants.{Known};
 
@@ -30,16 +30,16 @@ pub fn read_frame(frame: &[u8]) -> Frame
         return Frame::Unanswered(FrameTest::ShortFrame);
     }
     if let Verdict::Failed(test) = layout(frame) {
-        return refused(frame, test);
+        return refused_frame(frame, test);
     }
     if let Verdict::Failed(test) = checks(frame) {
-        return refused(frame, test);
+        return refused_frame(frame, test);
     }
     if let Verdict::Failed(test) = header(frame) {
-        return refused(frame, test);
+        return refused_frame(frame, test);
     }
     let Sender::Known(client) = sender(frame[4]) else {
-        return refused(frame, FrameTest::WrongSource);
+        return refused_frame(frame, FrameTest::WrongSource);
     };
     by_control(frame, client)
 }
@@ -134,7 +134,7 @@ fn sender(address: u8) -> Sender
 // A frame of a client, by its control.
 fn by_control(frame: &[u8], client: Client) -> Frame
     requires { ⌜ 9 ≤ length (now frame) ⌝ }
-    ensures { λ r. ⌜ r ≡ answered (now (frame .entry)) (Known client) (firstFailing meterSide controlTests (now (frame .entry))) ⌝ }
+    ensures { λ r. ⌜ r ≡ judgedFrame (now (frame .entry)) (Known client) (firstFailing meterSide controlTests (now (frame .entry))) ⌝ }
 {
     let head = head_of(frame);
     let count = information_length(frame);
@@ -170,9 +170,9 @@ fn by_control(frame: &[u8], client: Client) -> Frame
 }
 
 // A frame that a test refuses.
-fn refused(frame: &[u8], test: FrameTest) -> Frame
+fn refused_frame(frame: &[u8], test: FrameTest) -> Frame
     requires { ⌜ 9 ≤ length (now frame) ⌝ }
-    ensures { λ r. ⌜ r ≡ refused (now (frame .entry)) test ⌝ }
+    ensures { λ r. ⌜ r ≡ refusedFrame (now (frame .entry)) test ⌝ }
 {
     if number_of(test) < 8 {
         return Frame::Unanswered(test);

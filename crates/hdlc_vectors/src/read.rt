@@ -24,8 +24,8 @@ fn answer(frame: &[u8]) {
             client,
             head,
             information,
-        } => accepted(if information { 1 } else { 0 }, client, head),
-        Frame::LinkDown { client, head } => accepted(2, client, head),
+        } => print_kind(if information { 1 } else { 0 }, client, head),
+        Frame::LinkDown { client, head } => print_kind(2, client, head),
         Frame::Apdu {
             client,
             head,
@@ -35,14 +35,14 @@ fn answer(frame: &[u8]) {
     }
 }
 
-fn accepted(kind: usize, client: Client, head: Head) {
+fn print_kind(kind: usize, client: Client, head: Head) {
     print(field(b"link up|link up with information|link down|APDU", kind));
     print(field(b", V, |, H, ", number_of(client)));
     text::print_hex(&[head.destination, head.source, head.control]);
 }
 
 fn apdu(client: Client, head: Head, start: usize, end: usize) {
-    accepted(3, client, head);
+    print_kind(3, client, head);
     print(b", from ");
     print_number(start as u64);
     print(b" to ");

@@ -75,7 +75,7 @@ impl Meter {
         let rows = body::no_rows();
         b.rows = rows;
         self.body = b;
-        accepted(self)
+        done(self)
     }
 
     // The value of a register is set. Refusals 3 and 17.
@@ -96,7 +96,7 @@ impl Meter {
         let next = a.registers;
         b.registers = next;
         self.body = b;
-        accepted(self)
+        done(self)
     }
 
     // Columns are set by the names of given registers; rows are emptied. Refusals 3 and 18.
@@ -120,7 +120,7 @@ impl Meter {
         let rows = body::no_rows();
         b.rows = rows;
         self.body = b;
-        accepted(self)
+        done(self)
     }
 
     // The capture period is set. Refusals 3 and 15.
@@ -137,7 +137,7 @@ impl Meter {
         let mut b = m.body;
         b.period = period;
         self.body = b;
-        accepted(self)
+        done(self)
     }
 
     // The clock moves on, and a row is taken where a capture is due. Refusals 3 and 14.
@@ -154,7 +154,7 @@ impl Meter {
         let b = m.body;
         let next = body::ticked(b, clock);
         self.body = next;
-        accepted(self)
+        done(self)
     }
 
     // The P5 flag is set or cleared. Refusal 3.
@@ -168,7 +168,7 @@ impl Meter {
         let mut l = m.line;
         l.p5 = held;
         self.line = l;
-        accepted(self)
+        done(self)
     }
 
     // Power-up: links and associations end, of which nothing is left; counters, rows and record number are cleared. Refusal 3.
@@ -187,7 +187,7 @@ impl Meter {
         b.number = 0;
         self.line = line;
         self.body = b;
-        accepted(self)
+        done(self)
     }
 
     // The meter with zeros wherever it holds nothing: in the places above a count, and in the fields of an association that has
@@ -212,7 +212,7 @@ fn refused(number: u8, meter: Meter) -> Changed
     }
 }
 
-fn accepted(meter: Meter) -> Changed
+fn done(meter: Meter) -> Changed
     ensures { λ r. ⌜ r ≡ changed 0 meter ⌝ }
 {
     Changed { refusal: 0, meter }

@@ -98,9 +98,9 @@ abbrev any : Protocol
 any = record { decide = λ l a. answer (record { refusal = 0; sent = []; line = l }); seal = λ l w bytes. bytes }
 
 -- a call that is accepted was made on a sound meter; the meter after it is as the call leaves it, and sound
-accepted : (c : OwnerCall) (m : Model) → step any (owner c) m .refusal ≡ 0 → (step any (owner c) m .next ≡ obeyed c m) × (sound (obeyed c m) ≡ true)
+obeyed-sound : (c : OwnerCall) (m : Model) → step any (owner c) m .refusal ≡ 0 → (step any (owner c) m .next ≡ obeyed c m) × (sound (obeyed c m) ≡ true)
 unfolding step act
-accepted c m = go (sound m) (eqb (ownRefusal c m) 0) refl refl
+obeyed-sound c m = go (sound m) (eqb (ownRefusal c m) 0) refl refl
   where
     go : (y b : Bool) → sound m ≡ y → eqb (ownRefusal c m) 0 ≡ b → step any (owner c) m .refusal ≡ 0 → (step any (owner c) m .next ≡ obeyed c m) × (sound (obeyed c m) ≡ true)
     go true true q z e =
@@ -123,7 +123,7 @@ made {c} {s} {e} {n} {r} o w d =
 
     obeys : n ≡ 0 → (view (r .meter) ≡ obeyed c (view (meterOf s))) × (sound (view (r .meter)) ≡ true)
     obeys z =
-        let y = accepted c (view (meterOf s)) (sym (number any) ∙ z) in
+        let y = obeyed-sound c (view (meterOf s)) (sym (number any) ∙ z) in
         let q = o .promised any .meter ∙ y .0 in
         (q, ap sound q ∙ y .1)
 

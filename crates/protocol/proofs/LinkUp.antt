@@ -27,7 +27,7 @@ use Rattle.hdlc.specs.declared.Frame.the-variants.{LinkUp}
 use Rattle.hdlc.specs.Layout.{byte, headOf, formatOf, hcsOf, informationOf, fcsOf, headBytes, checked, flagged, frameOf}
 use Rattle.hdlc.specs.Addresses.{senderOf}
 use Rattle.hdlc.specs.Tests.{firstFailing}
-use Rattle.hdlc.specs.Reading.{refused, accepted, readFrame}
+use Rattle.hdlc.specs.Reading.{refusedFrame, acceptedFrame, readFrame}
 use Rattle.hdlc.specs.Replies.{uaFrame}
 use Rattle.hdlc.proofs.ReadingLaws.{read-told}
 use Rattle.hdlc.proofs.RoundTrip.{request-read, request-apdu}
@@ -79,7 +79,7 @@ tag-first b s = rw (number-here (b ∷ s) 0 1 (omega arith), number-one (b ∷ s
 -- The link-up.
 
 link-up-read : readFrame linkUpFrame ≡ LinkUp Verification (headOf linkUpFrame) false
-unfolding shift steps sameBytes checkOf checkFrom checkByte polynomial longestReceived greatestLength formatOf hcsOf informationOf fcsOf senderOf firstFailing refused accepted readFrame
+unfolding shift steps sameBytes checkOf checkFrom checkByte polynomial longestReceived greatestLength formatOf hcsOf informationOf fcsOf senderOf firstFailing refusedFrame acceptedFrame readFrame
 link-up-read = refl
 
 module _ (c : Client) (m : Model) (a : Lent) (s : sound m ≡ true) (p : heldByP5 c (m .line) ≡ false) (enough : Enough a) (e : LinksUp c a) where

@@ -69,7 +69,7 @@ fn ended(
     } else if !session.begun {
         io::write_all(STDERR_FILENO, b"script: standard input is empty\n");
     }
-    let last = answered(session, line, out);
+    let last = replied(session, line, out);
     let mut closed = flushed(last, out);
     closed.open = false;
     closed
@@ -117,7 +117,7 @@ fn completed(
     out: &mut [u8; answer::ROOM],
 ) -> Session {
     let whole = held(session, characters, line);
-    answered(whole, line, out)
+    replied(whole, line, out)
 }
 
 // More characters of a line are held.
@@ -128,7 +128,7 @@ fn held(mut session: Session, characters: &[u8], line: &mut [u8; LONGEST]) -> Se
 }
 
 // The line that is held is answered, unless it is to be skipped; then none is held.
-fn answered(mut session: Session, line: &[u8; LONGEST], out: &mut [u8; answer::ROOM]) -> Session {
+fn replied(mut session: Session, line: &[u8; LONGEST], out: &mut [u8; answer::ROOM]) -> Session {
     let n = session.held;
     session.held = 0;
     if lines::is_skipped(line, n) {

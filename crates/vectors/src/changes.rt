@@ -43,14 +43,14 @@ fn accepted_at(s: &[u8], i: usize) -> usize {
     let mut k: usize = 0;
     let mut j: usize = 0;
     while j < 8 {
-        k += accepted(s, i, BITS[j]);
+        k += accepted_with(s, i, BITS[j]);
         j += 1;
     }
     k
 }
 
 // 1 where the message with a bit changed is accepted, else 0.
-fn accepted(s: &[u8], i: usize, bit: u8) -> usize
+fn accepted_with(s: &[u8], i: usize, bit: u8) -> usize
     ensures { λ r. ⌜ r ≤ 1 ⌝ }
 {
     let mut m = [0u8; LONGEST];

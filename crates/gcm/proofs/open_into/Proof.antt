@@ -9,7 +9,7 @@ use Rattle.ghash.specs.Product.{num}
 use Rattle.gctr.specs.Gctr.{inc32, gctr}
 use Rattle.gcm.specs.Gcm.{ciphered, authentic}
 use Rattle.gcm.specs.Calls.{under, keyOf}
-use Rattle.gcm.proofs.OpenLaws.{no-room, forged, opened-there}
+use Rattle.gcm.proofs.OpenLaws.{no-room, forged, unsealed-there}
 use Rattle.gcm.proofs.open_into.Statement.{statement}
 use Rattle.gcm.proofs.open_into.Tie as tie
 
@@ -30,7 +30,7 @@ returns-2 c =
     let k = m .before in
     let s = k .before .before .before .before .before .before .before .args in
     let w = k .schedule-of .ensures in
-    opened-there
+    unsealed-there
     (keyOf (s .key))
     (s .nonce)
     (s .aad .now)

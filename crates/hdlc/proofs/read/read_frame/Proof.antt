@@ -13,7 +13,7 @@ returns-2 c =
     let l = c .before .before .before .before in
     let i = l .before in
     let f = i .before .before .args .frame .now in
-    c .refused .ensures ∙ sym (read-layout f (i .if1 .left) (sym (l .layout .ensures) ∙ c .before .before .test .given .1))
+    c .refused-frame .ensures ∙ sym (read-layout f (i .if1 .left) (sym (l .layout .ensures) ∙ c .before .before .test .given .1))
 
 returns-3 : tie.Need-returns-3
 returns-3 c =
@@ -22,7 +22,7 @@ returns-3 c =
     let i = l .before in
     let f = i .before .before .args .frame .now in
     let laid = sym (l .layout .ensures) ∙ k .before .enum-told .given .1 in
-    c .refused2 .ensures ∙ sym (read-checks f (i .if1 .left) laid (sym (k .checks .ensures) ∙ c .before .before .test2 .given .1))
+    c .refused-frame2 .ensures ∙ sym (read-checks f (i .if1 .left) laid (sym (k .checks .ensures) ∙ c .before .before .test2 .given .1))
 
 returns-4 : tie.Need-returns-4
 returns-4 c =
@@ -33,7 +33,7 @@ returns-4 c =
     let f = i .before .before .args .frame .now in
     let laid = sym (l .layout .ensures) ∙ k .before .enum-told .given .1 in
     let checked = sym (k .checks .ensures) ∙ h .before .enum-told2 .given .1 in
-    c .refused3 .ensures ∙ sym (read-header f (i .if1 .left) laid checked (sym (h .header .ensures) ∙ c .before .before .test3 .given .1))
+    c .refused-frame3 .ensures ∙ sym (read-header f (i .if1 .left) laid checked (sym (h .header .ensures) ∙ c .before .before .test3 .given .1))
 
 returns-5 : tie.Need-returns-5
 returns-5 c =
@@ -46,7 +46,7 @@ returns-5 c =
     let laid = sym (l .layout .ensures) ∙ k .before .enum-told .given .1 in
     let checked = sym (k .checks .ensures) ∙ h .before .enum-told2 .given .1 in
     let headed = sym (h .header .ensures) ∙ s .before .before .enum-told3 .given .1 in
-    c .refused4 .ensures ∙ sym (read-unknown f (i .if1 .left) laid checked headed (sym (s .sender .ensures) ∙ c .before .enum-told4 .given .1))
+    c .refused-frame4 .ensures ∙ sym (read-unknown f (i .if1 .left) laid checked headed (sym (s .sender .ensures) ∙ c .before .enum-told4 .given .1))
 
 returns-6 : tie.Need-returns-6
 returns-6 c =

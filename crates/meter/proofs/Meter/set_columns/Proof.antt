@@ -26,7 +26,7 @@ returns-3 c =
     let at-if2 = c .before .before in
     let at-if1 = at-if2 .before .before .before .before in
     let start = at-if1 .before .before in
-    rw (c .accepted .ensures) (accepts _ (start .args .self) _ (sym (at-if1 .before .is-sound .ensures) ∙ not-false _ (at-if1 .if1 .left)) (λ p. columns-set p (start .args .self) (record { count = start .args .count; items = start .args .columns }) _ (sym (at-if2 .before .columns-accepted .ensures) ∙ not-false _ (at-if2 .if2 .left)) (c .before .no-rows .ensures)))
+    rw (c .done .ensures) (accepts _ (start .args .self) _ (sym (at-if1 .before .is-sound .ensures) ∙ not-false _ (at-if1 .if1 .left)) (λ p. columns-set p (start .args .self) (record { count = start .args .count; items = start .args .columns }) _ (sym (at-if2 .before .columns-accepted .ensures) ∙ not-false _ (at-if2 .if2 .left)) (c .before .no-rows .ensures)))
 
 pub set-columns-spec : {M : Type 1} → statement M
 set-columns-spec = tie.close (tie.spec (λ c κs. search needs) (λ c κs. search needs) returns columns-accepted-requires (λ c κs. search needs) returns-2 (λ c κs. search needs) (λ c κs. search needs) returns-3)

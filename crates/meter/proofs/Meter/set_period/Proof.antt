@@ -20,7 +20,7 @@ returns-3 c =
     let at-if2 = c .before .before in
     let at-if1 = at-if2 .before .before in
     let start = at-if1 .before .before in
-    rw (c .accepted .ensures) (accepts _ (start .args .self) _ (sym (at-if1 .before .is-sound .ensures) ∙ not-false _ (at-if1 .if1 .left)) (λ p. period-set p (start .args .self) (start .args .period) (sym (at-if2 .before .is-permitted .ensures) ∙ not-false _ (at-if2 .if2 .left))))
+    rw (c .done .ensures) (accepts _ (start .args .self) _ (sym (at-if1 .before .is-sound .ensures) ∙ not-false _ (at-if1 .if1 .left)) (λ p. period-set p (start .args .self) (start .args .period) (sym (at-if2 .before .is-permitted .ensures) ∙ not-false _ (at-if2 .if2 .left))))
 
 pub set-period-spec : {M : Type 1} → statement M
 set-period-spec = tie.close (tie.spec (λ c κs. search needs) (λ c κs. search needs) returns (λ c κs. search needs) (λ c κs. search needs) returns-2 (λ c κs. search needs) returns-3)

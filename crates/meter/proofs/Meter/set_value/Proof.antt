@@ -23,7 +23,7 @@ returns-3 c =
     let at-if2 = c .before .before in
     let at-if1 = at-if2 .before .before .before .before in
     let start = at-if1 .before .before in
-    rw (c .accepted .ensures) (accepts _ (start .args .self) _ (sym (at-if1 .before .is-sound .ensures) ∙ not-false _ (at-if1 .if1 .left)) (λ p. value-set p (start .args .self) _ (start .args .value) (at-if2 .before .assign .result) (at-if2 .before .assign .ensures) (not-false _ (at-if2 .if2 .left))))
+    rw (c .done .ensures) (accepts _ (start .args .self) _ (sym (at-if1 .before .is-sound .ensures) ∙ not-false _ (at-if1 .if1 .left)) (λ p. value-set p (start .args .self) _ (start .args .value) (at-if2 .before .assign .result) (at-if2 .before .assign .ensures) (not-false _ (at-if2 .if2 .left))))
 
 pub set-value-spec : {M : Type 1} → statement M
 set-value-spec = tie.close (tie.spec (λ c κs. search needs) (λ c κs. search needs) returns assign-requires (λ c κs. search needs) returns-2 (λ c κs. search needs) returns-3)
