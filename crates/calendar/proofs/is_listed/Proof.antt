@@ -19,10 +19,14 @@ loop-holds : tie.Need-loop-holds Inv-loop μ-loop
 loop-holds c = let e : length (c .args .t2) ≡ 16 = search needs in (omega arith, (e, refl))
 
 returns : tie.Need-returns Inv-loop μ-loop
-returns c = let l = c .before .before .loop in listed-here (c .before .before .before .args .n) (c .before .before .before .args .t2) (l .i) (l .inv .1 .1) (omega arith) (c .if1 .taken)
+returns c =
+    let start = c .before .before .before in
+    let l = c .before .before .loop in listed-here (start .args .n) (start .args .t2) (l .i) (l .inv .1 .1) (omega arith) (c .if1 .taken)
 
 loop-again : tie.Need-loop-again Inv-loop μ-loop
-loop-again c = let l = c .before .before .loop in (omega arith, (l .inv .1 .0, listed-later (c .before .before .before .args .n) (c .before .before .before .args .t2) (l .i) (l .inv .1 .1) (omega arith) (c .if1 .left)))
+loop-again c =
+    let start = c .before .before .before in
+    let l = c .before .before .loop in (omega arith, (l .inv .1 .0, listed-later (start .args .n) (start .args .t2) (l .i) (l .inv .1 .1) (omega arith) (c .if1 .left)))
 
 returns-2 : tie.Need-returns-2 Inv-loop μ-loop
 returns-2 c = let l = c .before .loop in listed-nowhere (c .before .before .args .n) (c .before .before .args .t2) (l .i) (l .inv .1 .1) (omega arith)
