@@ -2,7 +2,6 @@
 // once and used as often as it is wanted. Nonces and tags have twelve bytes. No function here has a `requires`.
 ghost use mathlib.Core.Path.{_≡_};
 ghost use Rattle.ghash.specs.Product.{num};
-ghost use Rattle.wire.specs.Reading.{sameBytes};
 ghost use Rattle.gcm.specs.Gcm.{hashKey, bitLength, authenticated, tag, authentic, «gmac» as gmacOf, «ready» as readyOf};
 ghost use Rattle.gcm.specs.Calls.{under, keyOf, Sealed, Unsealed, bytesFrom};
 use aes::RoundKey;
@@ -171,21 +170,5 @@ fn matches(w: [[[u8; 4]; 4]; 11], h: Block, nonce: [u8; 12], aad: &[u8], c: &[u8
     ensures { λ r. ⌜ r ≡ authentic (under w (num h)) nonce (now (aad .entry)) (now (c .entry)) (now (t .entry)) ⌝ }
 {
     let r = tag_under(w, h, nonce, aad, c);
-    is_same(r, t)
-}
-
-// Whether a slice has these twelve bytes: the differences of all of them are gathered before the answer.
-fn is_same(r: [u8; 12], t: &[u8]) -> bool
-    ensures { λ b. ⌜ b ≡ sameBytes r (now (t .entry)) ⌝ }
-{
-    if t.len() != 12 {
-        return false;
-    }
-    let mut d: u8 = 0;
-    let mut i: usize = 0;
-    while i < 12 {
-        d = d | (r[i] ^ t[i]);
-        i = i + 1;
-    }
-    d == 0
+    gcm_tag::is_same(r, t)
 }
