@@ -55,12 +55,12 @@ unfolding lineOf
 rested-line Han up l r h p e f g =
     rw (g, f, e) (record { view = refl; wiped = record { agreed = refl; key = refl; challenges = record { client = refl; meter = refl } } })
 
-pub pending-line : (c : CipherClient) (n : Counters) (l r : LineState) (h : CipherParty) (p : Party) (agreed key theirs ours : List ℕ) → h ≡ cipherOf c l
-    → p ≡ record { title = h .party .title; up = h .party .up; phase = Pending; agreed = agreed }
+pub pending-line : (c : CipherClient) (n : Counters) (l r : LineState) (q p : Party) (agreed key theirs ours : List ℕ) → q ≡ partyOf (Ciphering c) l
+    → p ≡ record { title = q .title; up = q .up; phase = Pending; agreed = agreed }
     → r ≡ withCipher c (record { party = p; key = key; client = theirs; meter = ours; counters = n }) l
     → lineOf r ≡ withCounters c n (associates (Ciphering c) (pending agreed key theirs ours) (lineOf l))
 unfolding lineOf
-pending-line Han n l r h p agreed key theirs ours e f g = rw (g, f, e)
+pending-line Han n l r q p agreed key theirs ours e f g = rw (g, f, e)
 
 pub answered-line : (c : CipherClient) (n : Counters) (l r : LineState) (h : CipherParty) (p : Party) (agreed key : List ℕ) → h ≡ cipherOf c l
     → agreed ≡ agreedIn (held c (lineOf l))

@@ -4,6 +4,7 @@ use crate::agreed_in;
 use crate::cipher_of;
 use crate::is_up;
 use crate::key_in;
+use crate::party_of;
 use line::CipherParty;
 use line::LineState;
 use line::Party;
@@ -77,8 +78,7 @@ pub fn pending(
 ) -> LineState
     ensures { λ r. ⌜ lineOf r ≡ withCounters client counters (associates (Ciphering client) (pendingWith agreed key theirs ours) (lineOf line)) ⌝ }
 {
-    let h = cipher_of(line, client);
-    let p = h.party;
+    let p = party_of(line, Client::Ciphering(client));
     let party = in_phase(p, Phase::Pending, agreed);
     let k = CipherParty {
         party,

@@ -184,8 +184,9 @@ pub fn is_selective(line: LineState, client: Client) -> bool
 pub fn counters_of(line: LineState, client: CipherClient) -> Counters
     ensures { λ r. ⌜ r ≡ counters client (lineOf line) ⌝ }
 {
-    let h = cipher_of(line, client);
-    h.counters
+    match client {
+        CipherClient::Han => line.han.counters,
+    }
 }
 
 // The client's challenge.
@@ -240,10 +241,9 @@ fn party_of(line: LineState, client: Client) -> Party
 {
     match client {
         Client::Verification => line.verification,
-        Client::Ciphering(c) => {
-            let h = cipher_of(line, c);
-            h.party
-        }
+        Client::Ciphering(c) => match c {
+            CipherClient::Han => line.han.party,
+        },
     }
 }
 

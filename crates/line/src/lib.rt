@@ -77,8 +77,7 @@ fn links_stand(line: LineState) -> bool
     if !on_link(v) {
         return false;
     }
-    let h = line.han;
-    let p = h.party;
+    let p = line.han.party;
     on_link(p)
 }
 
@@ -89,8 +88,7 @@ fn services_offered(line: LineState) -> bool
     if !agreed_within(v, [0x00, 0x00, 0x14]) {
         return false;
     }
-    let h = line.han;
-    let p = h.party;
+    let p = line.han.party;
     agreed_within(p, [0x00, 0x00, 0x15])
 }
 

@@ -14,8 +14,9 @@ returns c = rw (sym (c .before .on-link .ensures [] [] []) ∙ not-true _ (c .if
 returns-2 : tie.Need-returns-2
 unfolding lineOf
 returns-2 c =
-    let h = c .before .before .before .before .before .before .args .line .han in
-    rw (sym (c .before .before .before .before .on-link .ensures [] [] []) ∙ not-false _ (c .before .before .before .if1 .left)) (c .on-link2 .ensures (h .key) (h .client) (h .meter))
+    let at-on-link = c .before .before .before in
+    let h = at-on-link .before .before .args .line .han in
+    rw (sym (at-on-link .on-link .ensures [] [] []) ∙ not-false _ (c .before .before .if1 .left)) (c .on-link2 .ensures (h .key) (h .client) (h .meter))
 
 pub links-stand-spec : {M : Type 1} → statement M
 links-stand-spec = tie.close (tie.spec (λ c κs. search needs) returns (λ c κs. search needs) returns-2)

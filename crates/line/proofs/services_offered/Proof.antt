@@ -14,8 +14,9 @@ returns c = rw (sym (c .before .agreed-within .ensures [] [] []) ∙ not-true _ 
 returns-2 : tie.Need-returns-2
 unfolding lineOf
 returns-2 c =
-    let h = c .before .before .before .before .before .before .args .line .han in
-    rw (sym (c .before .before .before .before .agreed-within .ensures [] [] []) ∙ not-false _ (c .before .before .before .if1 .left)) (c .agreed-within2 .ensures (h .key) (h .client) (h .meter))
+    let at-agreed-within = c .before .before .before in
+    let h = at-agreed-within .before .before .args .line .han in
+    rw (sym (at-agreed-within .agreed-within .ensures [] [] []) ∙ not-false _ (c .before .before .if1 .left)) (c .agreed-within2 .ensures (h .key) (h .client) (h .meter))
 
 pub services-offered-spec : {M : Type 1} → statement M
 services-offered-spec = tie.close (tie.spec (λ c κs. search needs) returns (λ c κs. search needs) returns-2)

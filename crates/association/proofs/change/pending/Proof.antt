@@ -7,9 +7,9 @@ use Rattle.association.proofs.change.pending.Tie as tie
 returns : tie.Need-returns
 returns c =
     let at-in-phase = c .before in
-    let at-cipher-of = at-in-phase .before .before in
-    let a = at-cipher-of .before .args in
-    pending-line (a .client) (a .counters) (a .line) _ _ _ (a .agreed) (a .key) (a .theirs) (a .ours) (at-cipher-of .cipher-of .ensures) (at-in-phase .in-phase .ensures) (c .with-cipher .ensures)
+    let at-party-of = at-in-phase .before in
+    let a = at-party-of .before .args in
+    pending-line (a .client) (a .counters) (a .line) _ _ _ (a .agreed) (a .key) (a .theirs) (a .ours) (at-party-of .party-of .ensures) (at-in-phase .in-phase .ensures) (c .with-cipher .ensures)
 
 pub pending-spec : {M : Type 1} → statement M
 pending-spec = tie.close (tie.spec (λ c κs. search needs) (λ c κs. search needs) (λ c κs. search needs) returns)
