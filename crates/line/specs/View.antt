@@ -1,11 +1,9 @@
 -- What the line of the code holds, as the model's Line: what an ended association left in its fields is no part of it.
-use mathlib.Core.Bool.{Bool, _&&_}
 use mathlib.Core.List.{List, []}
 use Prim.Native.Nat.{ℕ}
 use Rattle.model.specs.declared.CipherClient.{CipherClient}
 use Rattle.model.specs.declared.CipherClient.the-variants.{Han}
 use Rattle.model.specs.State.{Association, none, pending, associated, Peer, CipheringPeer, Line, newMeter}
-use Rattle.model.specs.Soundness.{kindsKnown, linksStand, servicesOffered}
 use Rattle.line.specs.declared.Phase.{Phase}
 use Rattle.line.specs.declared.Phase.the-variants.{Idle, Pending, Associated}
 use Rattle.line.specs.declared.Party.{Party}
@@ -34,7 +32,3 @@ lineOf l = record { title = l .title; verification = peerOf (l .verification) []
 -- the line of a new meter
 abbrev pub newLine : (title verification han : List ℕ) → Line
 newLine t v h = newMeter [] t v h .line
-
--- the tests of soundness on the line
-unfoldable pub lineSound : Line → Bool
-lineSound l = kindsKnown l && (linksStand l && servicesOffered l)

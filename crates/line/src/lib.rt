@@ -6,11 +6,11 @@ ghost use mathlib.Core.List.{List};
 ghost use Prim.Native.Nat.{ℕ};
 ghost use lib.ListN.{replicate};
 ghost use Rattle.model.specs.Services.{within};
-ghost use Rattle.model.specs.Soundness.{agreedWithin, kindsKnown, linksStand, onLink, servicesOffered};
+ghost use Rattle.model.specs.Soundness.{agreedWithin, kindsKnown, linksStand, onLink, servicesOffered, lineSound};
 ghost use Rattle.model.specs.State.{newPeer, noCounters};
 ghost use Rattle.line.specs.Canonical.{clearedCipherParty, clearedLine, clearedParty};
 ghost use Rattle.line.specs.Left.{Restarted};
-ghost use Rattle.line.specs.View.{associationOf, lineOf, lineSound, newLine, peerOf};
+ghost use Rattle.line.specs.View.{associationOf, lineOf, newLine, peerOf};
 
 // How far an association has come.
 pub enum Phase {

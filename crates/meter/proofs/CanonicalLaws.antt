@@ -4,19 +4,18 @@ use mathlib.Core.List.{List}
 use Prim.Native.Nat.{ℕ}
 use Rattle.model.specs.State.{newMeter}
 use Rattle.model.specs.Soundness.{sound}
-use Rattle.model.proofs.ListLaws.{both}
 use Rattle.model.proofs.StaySound.{new-meter-sound}
 use Rattle.line.specs.declared.LineState.{LineState}
-use Rattle.line.specs.View.{lineOf, lineSound, newLine}
+use Rattle.line.specs.View.{lineOf, newLine}
 use Rattle.line.specs.Canonical.{clearedLine}
 use Rattle.line.proofs.ClearLaws.{line-same, line-canonical}
 use Rattle.body.specs.declared.BodyState.{BodyState}
-use Rattle.body.specs.View.{bodyOf, bodySound, newBody}
+use Rattle.body.specs.View.{bodyOf, newBody}
 use Rattle.body.specs.Canonical.{ClearsBody}
 use Rattle.meter.specs.declared.Meter.{Meter}
 use Rattle.meter.specs.View.{view}
 use Rattle.meter.specs.Canonical.{clearedMeter, canonical, Cleared, Fresh, SameOnceCleared}
-use Rattle.meter.proofs.MeterLaws.{sound-is}
+use Rattle.meter.proofs.MeterLaws.{sound-body}
 
 pub meter-clear : (m : Meter) (l : LineState) (b : BodyState) → l ≡ clearedLine (m .line) → ClearsBody (m .body) b → Cleared m (record { line = l; body = b })
 unfolding view clearedMeter canonical
@@ -25,9 +24,7 @@ meter-clear m l b e p =
     record {
       is = λ i. record { line = e i; body = p .is i };
       same = λ i. record { line = line i; body = p .same i };
-      canonical = λ s.
-          let body = both (bodySound (bodyOf (m .body))) (lineSound (lineOf (m .line))) (sym (sound-is m) ∙ s) .0 in
-          λ i. record { line = (e ∙ line-canonical (m .line)) i; body = p .canonical body i };
+      canonical = λ s. λ i. record { line = (e ∙ line-canonical (m .line)) i; body = p .canonical (sound-body m s) i };
     }
 
 -- a new meter, cleared

@@ -9,7 +9,7 @@ use Rattle.model.specs.declared.Clock.{Clock}
 use Rattle.model.specs.Names.{given}
 use Rattle.model.specs.Clocks.{validClock}
 use Rattle.model.specs.Periods.{permittedPeriod}
-use Rattle.model.specs.Soundness.{registerList, columnList, periodPermitted, clockValid, rowClocksValid, rowCount, rowCells, associationKind, associationOnLink, agreedServices, passes, acceptedRegisters, acceptedColumns, sound}
+use Rattle.model.specs.Soundness.{registerList, columnList, periodPermitted, clockValid, rowClocksValid, rowCount, rowCells, associationKind, associationOnLink, agreedServices, passes, acceptedRegisters, acceptedColumns, sound, lineSound}
 use Rattle.model.specs.Calls.{OwnerCall, owner, giveRegisters, setValue, setColumns, setPeriod, tick, setP5, powerUp, refused, done, Protocol, ticked, poweredLine, act, step}
 use Rattle.model.proofs.ListLaws.{both}
 use Rattle.store.specs.declared.Registers.{Registers}
@@ -19,7 +19,7 @@ use Rattle.store.specs.declared.Assigned.{Assigned}
 use Rattle.store.specs.Lists.{registersOf, columnsOf, entriesOf}
 use Rattle.store.specs.Promises.{Assigns}
 use Rattle.line.specs.declared.LineState.{LineState}
-use Rattle.line.specs.View.{lineOf, lineSound}
+use Rattle.line.specs.View.{lineOf}
 use Rattle.body.specs.declared.BodyState.{BodyState}
 use Rattle.body.specs.View.{bodyOf, rowsSound, bodySound, Fit}
 use Rattle.body.proofs.BodyLaws.{sound-fits}
@@ -30,18 +30,21 @@ use Rattle.meter.specs.Promise.{Owned, changed}
 -- Soundness.
 
 regroup : (a b c d e f g h i j : Bool) → a && (b && (c && (d && (e && (f && (g && (h && (i && (j && true)))))))))
-    ≡ a && (b && (c && (d && (e && (f && g))))) && (h && (i && j))
+    ≡ a && (b && (c && (d && (e && (f && g))))) && (h && i && j)
 regroup a b c d e f g h i j = simp (and-assoc, and-true)
 
 pub sound-is : (m : Meter) → sound (view m) ≡ (bodySound (bodyOf (m .body)) && lineSound (lineOf (m .line)))
-unfolding sound bodySound rowsSound lineSound view
+unfolding sound bodySound rowsSound view
 sound-is m =
     regroup (passes registerList (view m)) (passes columnList (view m)) (passes periodPermitted (view m)) (passes clockValid (view m))
     (passes rowClocksValid (view m)) (passes rowCount (view m)) (passes rowCells (view m)) (passes associationKind (view m))
     (passes associationOnLink (view m)) (passes agreedServices (view m))
 
+pub sound-body : (m : Meter) → sound (view m) ≡ true → bodySound (bodyOf (m .body)) ≡ true
+sound-body m s = both (bodySound (bodyOf (m .body))) (lineSound (lineOf (m .line))) (sym (sound-is m) ∙ s) .0
+
 pub fits : (m : Meter) → sound (view m) ≡ true → Fit (m .body)
-fits m s = sound-fits (m .body) (both (bodySound (bodyOf (m .body))) (lineSound (lineOf (m .line))) (sym (sound-is m) ∙ s) .0)
+fits m s = sound-fits (m .body) (sound-body m s)
 
 -- How a call ends.
 

@@ -16,10 +16,10 @@ use Rattle.model.specs.Names.{every, bearing, blankRegister, place, assi
 use Rattle.model.specs.Clocks.{validClock, realDate, realTime, fixedBytes, daysIn, februaryDays}
 use Rattle.model.specs.Periods.{periods, permittedPeriod, captureDue}
 use Rattle.model.specs.State.{Entry, Store, Body, Model, withLine, withBody, withStore, keeping, withRows, withRegisters, withClock, withNumber, withPeriod, withP5, newMeter}
-use Rattle.model.specs.Soundness.{SoundnessTest, registerList, columnList, periodPermitted, clockValid, rowClocksValid, rowCount, rowCells, associationKind, associationOnLink, agreedServices, passes, acceptedRegisters, acceptedColumns, kindsKnown, linksStand, servicesOffered, sound}
+use Rattle.model.specs.Soundness.{SoundnessTest, registerList, columnList, periodPermitted, clockValid, rowClocksValid, rowCount, rowCells, associationKind, associationOnLink, agreedServices, passes, acceptedRegisters, acceptedColumns, kindsKnown, linksStand, servicesOffered, sound, lineSound}
 use Rattle.model.specs.Objects.{Content, simple, rows, recordNumber, register, Meaning, known, unknown, meaning, Service, get, action, Request, Result, granted, denied, methodInvoked, afterMethod, afterAction, answered, turned}
 use Rattle.model.specs.Calls.{Call, frame, owner, OwnerCall, ownRefusal, obeyed, giveRegisters, setValue, setColumns, setPeriod, tick, setP5, powerUp, Outcome, Decision, answer, serve, Protocol, decided, nextNumber, rowNow, captured, ticked, act, early, step}
-use Rattle.model.specs.Archive.{NewMeterSound, soundLine, lineAfter, KeepsLines, StaysSound}
+use Rattle.model.specs.Archive.{NewMeterSound, lineAfter, KeepsLines, StaysSound}
 use Rattle.model.proofs.ListLaws.{both, both-true, by-test, every-anywhere, passed}
 use Rattle.model.proofs.SoundnessLaws.{sound-passes, sound-from}
 
@@ -50,10 +50,10 @@ good-body m s =
       clock = h clockValid;
     }
 
-good-line : (m : Model) → sound m ≡ true → soundLine (m .line) ≡ true
+good-line : (m : Model) → sound m ≡ true → lineSound (m .line) ≡ true
 good-line m s = let h = sound-passes m s in both-true (both-true (h associationKind) (h associationOnLink)) (h agreedServices)
 
-sound-of : (m : Model) → GoodBody (m .body) → soundLine (m .line) ≡ true → sound m ≡ true
+sound-of : (m : Model) → GoodBody (m .body) → lineSound (m .line) ≡ true → sound m ≡ true
 sound-of m g e = sound-from m go
   where
     inner : kindsKnown (m .line) && linksStand (m .line) ≡ true
@@ -195,7 +195,7 @@ module _ (p : Protocol) (keeps : KeepsLines p) (m : Model) (s : sound m ≡ true
   unfolding act
   act-sound (frame a) = go ((p .decide) (m .line) a) (keeps (m .line) a (good-line m s))
     where
-      go : (d : Decision) → soundLine (lineAfter d) ≡ true → sound (decided p d m .next) ≡ true
+      go : (d : Decision) → lineSound (lineAfter d) ≡ true → sound (decided p d m .next) ≡ true
       go (answer x) e = sound-of (withLine (x .line) m) (good-body m s) e
       go (serve q w l) e = sound-of _ (good-turned q (m .body) (good-body m s)) e
   act-sound (owner o) = by-test (λ (q : Outcome). sound (q .next) ≡ true) (eqb (ownRefusal o m) 0) (λ z. owner-sound o (eqb-true (ownRefusal o m) 0 z)) (λ _. s)

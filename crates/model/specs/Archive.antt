@@ -14,7 +14,7 @@ use Rattle.model.specs.Names.{sameName, bearing}
 use Rattle.model.specs.Clocks.{validClock}
 use Rattle.model.specs.Periods.{listed, captureDue}
 use Rattle.model.specs.State.{Line, Entry, Body, Model, newMeter}
-use Rattle.model.specs.Soundness.{kindsKnown, linksStand, servicesOffered, sound}
+use Rattle.model.specs.Soundness.{lineSound, sound}
 use Rattle.model.specs.Objects.{profileNamed, recordNumberNamed, Service, get, action}
 use Rattle.model.specs.Calls.{Lent, Call, frame, owner, OwnerCall, giveRegisters, setValue, setColumns, setPeriod, tick, setP5, powerUp, Outcome, refused, Decision, answer, serve, Protocol, step}
 
@@ -116,9 +116,6 @@ NumberStays p = (c : Call) (m : Model) → NumberAfter p c m (step p c m)
 abbrev pub NewMeterSound : Type 0
 NewMeterSound = (d t v h : List ℕ) → sound (newMeter d t v h) ≡ true
 
-abbrev pub soundLine : Line → Bool
-soundLine l = kindsKnown l && linksStand l && servicesOffered l
-
 -- the line after a frame
 abbrev pub lineAfter : Decision → Line
 lineAfter (answer s) = s .line
@@ -126,7 +123,7 @@ lineAfter (serve q w l) = l
 
 -- what is asked of a protocol: a sound line stays sound
 abbrev pub KeepsLines : Protocol → Type 0
-KeepsLines p = (l : Line) (a : Lent) → soundLine l ≡ true → soundLine (lineAfter ((p .decide) l a)) ≡ true
+KeepsLines p = (l : Line) (a : Lent) → lineSound l ≡ true → lineSound (lineAfter ((p .decide) l a)) ≡ true
 
 abbrev pub StaysSound : Protocol → Type 0
 StaysSound p = (c : Call) (m : Model) → sound m ≡ true → sound (step p c m .next) ≡ true

@@ -65,6 +65,9 @@ servicesOffered l =
     agreedWithin (offered Verification) (l .verification .association)
     && agreedWithin (offered (Ciphering Han)) (l .han .peer .association)
 
+abbrev pub lineSound : Line → Bool
+lineSound l = kindsKnown l && linksStand l && servicesOffered l
+
 -- The tests.
 
 pub data SoundnessTest : Type 0 where

@@ -11,8 +11,8 @@ use Rattle.model.specs.declared.CipherClient.the-variants.{Han}
 use Rattle.model.specs.declared.Counters.{Counters}
 use Rattle.model.specs.Services.{offered, common}
 use Rattle.model.specs.State.{Association, none, pending, associated, Peer, Line}
-use Rattle.model.specs.Soundness.{knownKind, onLink, agreedWithin, kindsKnown, linksStand, servicesOffered}
-use Rattle.model.specs.Archive.{soundLine, lineAfter, KeepsLines}
+use Rattle.model.specs.Soundness.{knownKind, onLink, agreedWithin, kindsKnown, linksStand, servicesOffered, lineSound}
+use Rattle.model.specs.Archive.{lineAfter, KeepsLines}
 use Rattle.model.proofs.ListLaws.{both, both-true}
 use borrow.Author.Tests.{not-false}
 use Rattle.counters.specs.Window.{inWindow}
@@ -49,7 +49,7 @@ record Good (c : Client) (p : Peer) : Type 0 where
   link : onLink p ≡ true
   services : agreedWithin (offered c) (p .association) ≡ true
 
-good : (c : Client) (l : Line) → soundLine l ≡ true → Good c (peer c l)
+good : (c : Client) (l : Line) → lineSound l ≡ true → Good c (peer c l)
 good c l s = go c
   where
     k : kindsKnown l && linksStand l ≡ true
@@ -68,14 +68,14 @@ good c l s = go c
     go Verification = record { kind = kinds .0; link = links .0; services = services .0 }
     go (Ciphering Han) = record { kind = kinds .1; link = links .1; services = services .1 }
 
-good-line : (l : Line) → Good Verification (l .verification) → Good (Ciphering Han) (l .han .peer) → soundLine l ≡ true
+good-line : (l : Line) → Good Verification (l .verification) → Good (Ciphering Han) (l .han .peer) → lineSound l ≡ true
 good-line l v h = both-true (both-true (both-true (v .kind) (h .kind)) (both-true (v .link) (h .link))) (both-true (v .services) (h .services))
 
-with-peer : (c : Client) (p : Peer) (l : Line) → Good c p → soundLine l ≡ true → soundLine (withPeer c p l) ≡ true
+with-peer : (c : Client) (p : Peer) (l : Line) → Good c p → lineSound l ≡ true → lineSound (withPeer c p l) ≡ true
 with-peer Verification p l g s = good-line (withPeer Verification p l) g (good (Ciphering Han) l s)
 with-peer (Ciphering Han) p l g s = good-line (withPeer (Ciphering Han) p l) (good Verification l s) g
 
-with-counters : (c : CipherClient) (n : Counters) (l : Line) → soundLine l ≡ true → soundLine (withCounters c n l) ≡ true
+with-counters : (c : CipherClient) (n : Counters) (l : Line) → lineSound l ≡ true → lineSound (withCounters c n l) ≡ true
 with-counters Han n l s = s
 
 good-linked : (c : Client) (up : Bool) (p : Peer) → Good c (linked up p)
@@ -92,15 +92,15 @@ good-ended : (c : Client) (p : Peer) → Good c (withAssociation none p)
 good-ended Verification p = record { kind = refl; link = or-true (p .up); services = refl }
 good-ended (Ciphering c) p = record { kind = refl; link = or-true (p .up); services = refl }
 
-module _ (l : Line) (s : soundLine l ≡ true) where
+module _ (l : Line) (s : lineSound l ≡ true) where
   abbrev Keeps : Ruling → Type 0
-  Keeps r = soundLine (lineAfter (decision r)) ≡ true
+  Keeps r = lineSound (lineAfter (decision r)) ≡ true
 
   keeps-if : (b : Bool) (x y : Ruling) → (b ≡ true → Keeps x) → (b ≡ false → Keeps y) → Keeps (cond b x y)
   keeps-if true x y p q = p refl
   keeps-if false x y p q = q refl
 
-  ends : (c : Client) → soundLine (associates c none l) ≡ true
+  ends : (c : Client) → lineSound (associates c none l) ≡ true
   ends c = with-peer c (withAssociation none (peer c l)) l (good-ended c (peer c l)) s
 
   keeps-up : (c : Client) (h : Head) (i : Bool) → Keeps (linkUp l c h i)
@@ -127,10 +127,10 @@ module _ (l : Line) (s : soundLine l ≡ true) where
     x = held k l
 
     -- with any counters
-    counted : (n : Counters) (m : Line) → soundLine m ≡ true → soundLine (withCounters k n m) ≡ true
+    counted : (n : Counters) (m : Line) → lineSound m ≡ true → lineSound (withCounters k n m) ≡ true
     counted n m = with-counters k n m
 
-    stands : (y : Association) → knownKind (Ciphering k) y ≡ true → agreedWithin (offered (Ciphering k)) y ≡ true → ciphering k l .peer .up ≡ true → soundLine (associates (Ciphering k) y l) ≡ true
+    stands : (y : Association) → knownKind (Ciphering k) y ≡ true → agreedWithin (offered (Ciphering k)) y ≡ true → ciphering k l .peer .up ≡ true → lineSound (associates (Ciphering k) y l) ≡ true
     stands y e o up = with-peer (Ciphering k) (withAssociation y (ciphering k l .peer)) l (good-standing (Ciphering k) y (ciphering k l .peer) e o up) s
 
     keeps-ciphered : (client key proposed : List ℕ) (counter : ℕ) → ciphering k l .peer .up ≡ true → Keeps (acceptedCiphered l a k h client key proposed counter)

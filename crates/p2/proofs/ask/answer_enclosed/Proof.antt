@@ -2,14 +2,12 @@
 use mathlib.Core.Path.{_≡_, sym, ap, _∙_}
 use native.Mathlib.Omega.{arith}
 use Rattle.model.proofs.LimitFacts.{reply-room, text-room}
-use Rattle.model.proofs.ListLaws.{both}
 use Rattle.cosem.specs.Tags.{dedicatedTag}
 use Rattle.counters.specs.declared.Taken.{Taken}
 use Rattle.counters.specs.Advance.{taken}
 use Rattle.counters.specs.Window.{accepting}
-use Rattle.line.specs.View.{lineOf, lineSound}
-use Rattle.body.specs.View.{bodyOf, bodySound}
-use Rattle.meter.proofs.MeterLaws.{sound-is}
+use Rattle.line.specs.View.{lineOf}
+use Rattle.meter.proofs.MeterLaws.{sound-body}
 use Rattle.model.specs.declared.Counters.{Counters}
 use Rattle.model.specs.State.{Association}
 use Rattle.material.specs.Material.{keysFrom}
@@ -24,7 +22,7 @@ answer-requires : tie.Need-answer-requires
 answer-requires c κs =
     let s = c .before .before .before .before .before .before .before .before .before .before in
     let m = s .args .meter in (
-      both (bodySound (bodyOf (m .body))) (lineSound (lineOf (m .line))) (sym (sound-is m) ∙ s .pre .0) .0,
+      sound-body m (s .pre .0),
       omega (arith, reply-room, text-room, s .pre .1),
     )
 

@@ -1,11 +1,9 @@
 -- `p2::ask::answer_plain` meets its contract.
-use mathlib.Core.Path.{refl, sym, _∙_}
+use mathlib.Core.Path.{refl, sym}
 use native.Mathlib.Omega.{arith}
 use Rattle.model.proofs.LimitFacts.{reply-room, text-room}
-use Rattle.model.proofs.ListLaws.{both}
-use Rattle.line.specs.View.{lineOf, lineSound}
-use Rattle.body.specs.View.{bodyOf, bodySound}
-use Rattle.meter.proofs.MeterLaws.{sound-is}
+use Rattle.line.specs.View.{lineOf}
+use Rattle.meter.proofs.MeterLaws.{sound-body}
 use Rattle.p2.proofs.Endings.{answer-some, answer-short, plain-sent, serves}
 use borrow.Author.Needs.{needs}
 use Rattle.p2.proofs.ask.answer_plain.Statement.{statement}
@@ -14,7 +12,7 @@ use Rattle.p2.proofs.ask.answer_plain.Tie as tie
 answer-requires : tie.Need-answer-requires
 answer-requires c κs =
     let m = c .before .before .before .before .before .before .args .meter in
-    (both (bodySound (bodyOf (m .body))) (lineSound (lineOf (m .line))) (sym (sound-is m) ∙ c .before .before .before .before .before .before .pre .0) .0, omega (arith, reply-room, text-room, c .before .before .before .before .before .before .pre .1))
+    (sound-body m (c .before .before .before .before .before .before .pre .0), omega (arith, reply-room, text-room, c .before .before .before .before .before .before .pre .1))
 
 send-plain-requires : tie.Need-send-plain-requires
 send-plain-requires c κs =
