@@ -4,6 +4,7 @@ pub mod Clocks
 pub mod Periods
 pub mod Services
 pub mod State
+pub mod Clients
 pub mod Objects
 pub mod Lengths
 pub mod WorkedAnswers

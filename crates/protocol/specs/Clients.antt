@@ -4,59 +4,19 @@ use mathlib.Core.Bool.{Bool, true, false, not, _&&_}
 use mathlib.Core.List.{List}
 use Prim.Native.Nat.{ℕ}
 use Rattle.model.specs.declared.Client.{Client}
-use Rattle.model.specs.declared.Client.the-variants.{Verification, Ciphering}
-use Rattle.model.specs.declared.CipherClient.the-variants.{Han}
 use Rattle.model.specs.declared.CipherClient.{CipherClient}
-use Rattle.model.specs.declared.Counters.{Counters}
 use Rattle.model.specs.Services.{within, getService, actionService, selectiveAccess}
-use Rattle.model.specs.State.{Association, none, pending, associated, Peer, CipheringPeer, Line}
+use Rattle.model.specs.State.{Association, none, pending, associated, Line}
 use Rattle.model.specs.Soundness.{isNone}
 use Rattle.cosem.specs.declared.Tag.{Tag}
 use Rattle.cosem.specs.declared.Tag.the-variants.{Aarq, Rlrq, PlainRequest, GlobalAction, DedicatedRequest, Unknown}
 use Rattle.cosem.specs.declared.ServiceKind.{ServiceKind}
 use Rattle.cosem.specs.declared.ServiceKind.the-variants.{Get, Set, Action}
+pub use Rattle.model.specs.Clients.{ciphering, withCiphering, peer, withPeer, linked, withAssociation, associates, counters, withCounters, held}
 pub use Rattle.line.specs.Canonical.{agreedIn, keyIn, clientChallenge, meterChallenge}
 use Rattle.acse.specs.Clients.{ciphers}
 use Rattle.material.specs.Material.{Keys, keysFrom}
 use Rattle.protocol.specs.declared.Secrets.{Secrets}
-
--- A client's part of the line.
-
-abbrev pub ciphering : CipherClient → Line → CipheringPeer
-ciphering Han l = l .han
-
-abbrev pub withCiphering : CipherClient → CipheringPeer → Line → Line
-withCiphering Han p l = record { title = l .title; verification = l .verification; han = p; p5 = l .p5 }
-
-abbrev pub peer : Client → Line → Peer
-peer Verification l = l .verification
-peer (Ciphering c) l = ciphering c l .peer
-
-abbrev pub withPeer : Client → Peer → Line → Line
-withPeer Verification p l = record { title = l .title; verification = p; han = l .han; p5 = l .p5 }
-withPeer (Ciphering c) p l = withCiphering c (record { peer = p; counters = ciphering c l .counters }) l
-
--- its link up, or down, and no association
-abbrev pub linked : Bool → Peer → Peer
-linked up p = record { title = p .title; up = up; association = none }
-
-abbrev pub withAssociation : Association → Peer → Peer
-withAssociation a p = record { title = p .title; up = p .up; association = a }
-
--- the client's association becomes this one
-abbrev pub associates : Client → Association → Line → Line
-associates c a l = withPeer c (withAssociation a (peer c l)) l
-
--- the counters of a client that ciphers
-abbrev pub counters : CipherClient → Line → Counters
-counters c l = ciphering c l .counters
-
-abbrev pub withCounters : CipherClient → Counters → Line → Line
-withCounters c n l = withCiphering c (record { peer = ciphering c l .peer; counters = n }) l
-
--- its association
-abbrev pub held : CipherClient → Line → Association
-held c l = ciphering c l .peer .association
 
 abbrev pub selectiveIn : Client → Line → Bool
 selectiveIn c l = within selectiveAccess (agreedIn (peer c l .association))
