@@ -11,9 +11,10 @@ use borrow.Author.Tests.{lt-ltb, le-ltb}
 use Rattle.wire.specs.Reading.{sameBytes}
 use Rattle.wire.proofs.ReadingLaws.{by-order}
 use Rattle.model.specs.declared.Name.{Name}
+use Rattle.model.specs.declared.CipherClient.the-variants.{Han}
 use Rattle.model.specs.declared.Register.{Register}
 use Rattle.model.specs.Names.{sameName, seat, place, given, bearing, blankName, blankRegister, nameOf}
-use Rattle.model.specs.Objects.{Own, deviceObject, ownObjects, challengeNamed, ownNames, registerObject, Meaning, known, unknown, amongOwn, amongRegisters}
+use Rattle.model.specs.Objects.{Own, deviceObject, ownObjects, challengeOf, ownNames, registerObject, Meaning, known, unknown, amongOwn, amongRegisters}
 use Rattle.model.proofs.NameLaws.{same-name, given-bears}
 use Rattle.store.specs.declared.Registers.{Registers}
 use Rattle.store.specs.Lists.{registersOf}
@@ -46,7 +47,7 @@ module _ (n : Name) (e : Meaning) where
 
   -- the name stands behind the challenge's, which is the first
   pub own-at : (j : ℕ) → j + 1 ≡ seat n ownNames → j < 6 → amongOwn n ownObjects e ≡ known (getD ownObjects j deviceObject .object)
-  own-at j q h = go (sameName challengeNamed n) q
+  own-at j q h = go (sameName (challengeOf Han) n) q
     where
       go : (b : Bool) → j + 1 ≡ cond b 0 (suc (seat n (map ownName ownObjects))) → amongOwn n ownObjects e ≡ known (getD ownObjects j deviceObject .object)
       go true k = absurd (omega arith)
@@ -55,19 +56,19 @@ module _ (n : Name) (e : Meaning) where
           let w : seat n (map ownName ownObjects) < 6 = omega arith in
           own-here deviceObject ownObjects w ∙ ap (λ (x : ℕ). known (getD ownObjects x deviceObject .object)) s
 
-  challenge-apart : challengeNamed ≡ n → amongOwn n ownObjects e ≡ e
+  challenge-apart : challengeOf Han ≡ n → amongOwn n ownObjects e ≡ e
   unfolding sameBytes
   challenge-apart p = rw (← p)
 
   -- a name that no readable object bears
   pub own-not : (i : ℕ) → i ≡ seat n ownNames → (1 ≤ i → i ≤ 6 → ⊥) → amongOwn n ownObjects e ≡ e
-  own-not i q h = go (sameName challengeNamed n) refl q
+  own-not i q h = go (sameName (challengeOf Han) n) refl q
     where
       far : (s : ℕ) → i ≡ suc s → 6 ≤ s
       far s k = by-order 6 s (λ p. p) (λ p. absurd (h (omega arith) (omega arith)))
 
-      go : (b : Bool) → sameName challengeNamed n ≡ b → i ≡ cond b 0 (suc (seat n (map ownName ownObjects))) → amongOwn n ownObjects e ≡ e
-      go true t k = challenge-apart (same-name challengeNamed n t)
+      go : (b : Bool) → sameName (challengeOf Han) n ≡ b → i ≡ cond b 0 (suc (seat n (map ownName ownObjects))) → amongOwn n ownObjects e ≡ e
+      go true t k = challenge-apart (same-name (challengeOf Han) n t)
       go false t k = own-none ownObjects (far (seat n (map ownName ownObjects)) k)
 
 over-six : (i : ℕ) → suc (suc (suc (suc (suc (suc (suc i)))))) ≤ 6 → ⊥

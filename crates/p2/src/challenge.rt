@@ -15,7 +15,6 @@ use line::LineState;
 use material::ReadyKeys;
 use model::CipherClient;
 use model::Client;
-use model::Name;
 use protocol::Secrets;
 ghost use mathlib.Core.Path.{_≡_};
 ghost use Rattle.cosem.specs.Requests.{readAction};
@@ -23,7 +22,7 @@ ghost use Rattle.material.specs.Material.{keysOf};
 ghost use Rattle.envelope.specs.Challenge.{rightProof};
 ghost use Rattle.line.specs.View.{lineOf};
 ghost use Rattle.protocol.specs.Clients.{ciphering, counters, held, meterChallenge};
-ghost use Rattle.protocol.specs.Decide.{answeredChallenge, challenged, challengeEnclosed, challengeOf, disproved, isChallenge, ofCiphering, onFirstMethod, proofIn, proved};
+ghost use Rattle.protocol.specs.Decide.{answeredChallenge, challenged, challengeEnclosed, disproved, isChallenge, ofCiphering, onFirstMethod, proofIn, proved};
 ghost use Rattle.replies.specs.Room.{HasRoom};
 ghost use Rattle.p2.specs.Inner.{Tells, TellsUnder};
 
@@ -126,24 +125,13 @@ fn is_challenge(client: CipherClient, text: &[u8], request: Asked) -> bool
     if request.class != 15 {
         return false;
     }
-    let own = challenge_of(client);
+    let own = store::challenge_of(client);
     let name = cosem::name_in(text);
     if !names::same_name(own, name) {
         return false;
     }
     let wanted = request.wanted;
     is_first_method(wanted)
-}
-
-// The name of the object that the client answers the challenge at.
-fn challenge_of(client: CipherClient) -> Name
-    ensures { λ r. ⌜ r ≡ challengeOf client ⌝ }
-{
-    match client {
-        CipherClient::Han => Name {
-            bytes: [0, 0, 40, 0, 4, 255],
-        },
-    }
 }
 
 // Whether method 1 is wanted.

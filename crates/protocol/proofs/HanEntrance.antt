@@ -21,7 +21,7 @@ use Rattle.model.specs.Limits.{longestSent, longestReceived, leastSize, envelop
 use Rattle.model.specs.Services.{offered, common}
 use Rattle.model.specs.State.{pending, Line, Model, withLine}
 use Rattle.model.specs.Soundness.{sound}
-use Rattle.model.specs.Objects.{challengeNamed}
+use Rattle.model.specs.Objects.{challengeOf}
 use Rattle.model.specs.Calls.{Lent, frame as frameCall, Outcome, decided}
 use Rattle.hdlc.specs.declared.Head.{Head}
 use Rattle.axdr.specs.Values.{greatestDepth, layoutOf, valueWithin, valueEnd}
@@ -201,7 +201,7 @@ module _ (invoke : ℕ) (rest : List ℕ) (size : length rest ≡ 17) where
   unfolding readAction
   action-read = rw (part, last-value) fields
 
-  name-same : sameBytes (challengeNamed .bytes) (take 6 (drop 5 action)) && true ≡ true
+  name-same : sameBytes (challengeOf Han .bytes) (take 6 (drop 5 action)) && true ≡ true
   unfolding proofOfH sameBytes
   name-same = refl
 

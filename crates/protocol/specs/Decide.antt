@@ -10,12 +10,10 @@ use lib.ListN.{take, drop}
 use Rattle.model.specs.declared.Client.{Client}
 use Rattle.model.specs.declared.CipherClient.{CipherClient}
 use Rattle.model.specs.declared.Client.the-variants.{Verification, Ciphering}
-use Rattle.model.specs.declared.CipherClient.the-variants.{Han}
-use Rattle.model.specs.declared.Name.{Name}
 use Rattle.model.specs.Names.{sameName}
 use Rattle.model.specs.Services.{offered, common}
 use Rattle.model.specs.State.{none, pending, associated, Line}
-use Rattle.model.specs.Objects.{challengeNamed, actionAnswer, denied}
+use Rattle.model.specs.Objects.{challengeOf, actionAnswer, denied}
 use Rattle.model.specs.Calls.{Lent, Wrap, Decision, Protocol}
 use Rattle.wire.specs.Reading.{part}
 use Rattle.hdlc.specs.declared.Head.{Head}
@@ -153,9 +151,6 @@ onFirstMethod (Read a) = false
 onFirstMethod (ReadSelected a k at) = false
 onFirstMethod (Invoke k) = eqb k 1
 onFirstMethod (InvokeWith k at) = eqb k 1
-
-abbrev pub challengeOf : CipherClient → Name
-challengeOf Han = challengeNamed
 
 unfoldable pub isChallenge : CipherClient → List ℕ → Asked → Bool
 isChallenge c text q = eqb (q .class) 15 && sameName (challengeOf c) (nameIn text) && onFirstMethod (q .wanted)
