@@ -1,1 +1,1 @@
-pub mod PartyLaws
+pub mod ChangeLaws

@@ -1,14 +1,16 @@
 // What the line becomes: links up and down, associations begun and ended, counters. An association that ends leaves zeros,
 // and so do challenges that are answered.
-use crate::agreed_in;
-use crate::cipher_of;
-use crate::is_up;
-use crate::key_in;
-use crate::party_of;
 use line::CipherParty;
 use line::LineState;
 use line::Party;
 use line::Phase;
+use line::agreed_in;
+use line::cipher_of;
+use line::is_up;
+use line::key_in;
+use line::party_of;
+use line::with_cipher;
+use line::with_verification;
 use model::CipherClient;
 use model::Client;
 use model::Counters;
@@ -20,7 +22,6 @@ ghost use Rattle.model.specs.State.{none, «pending» as pendingWith, associate
 ghost use Rattle.line.specs.View.{lineOf};
 ghost use Rattle.protocol.specs.Clients.{associates, linked, peer, withCounters, withPeer};
 ghost use Rattle.association.specs.Ends.{Answered, Ends};
-ghost use Rattle.association.specs.Parties.{withCipher};
 
 // The client's link is up, or down, and its association ends.
 pub fn with_link(line: LineState, client: Client, up: bool) -> LineState
@@ -94,11 +95,10 @@ pub fn pending(
 pub fn associated_ciphered(line: LineState, client: CipherClient, counters: Counters) -> LineState
     ensures { λ r. ⌜ Answered client counters (lineOf line) r ⌝ }
 {
-    let h = cipher_of(line, client);
-    let p = h.party;
+    let p = party_of(line, Client::Ciphering(client));
     let agreed = agreed_in(line, Client::Ciphering(client));
     let party = in_phase(p, Phase::Associated, agreed);
-    let key = key_in(h);
+    let key = key_in(line, client);
     let k = CipherParty {
         party,
         key,
@@ -126,36 +126,6 @@ pub fn with_counters(line: LineState, client: CipherClient, counters: Counters) 
         counters,
     };
     with_cipher(line, client, k)
-}
-
-// The line with this party of V.
-fn with_verification(line: LineState, verification: Party) -> LineState
-    ensures { λ r. ⌜ r ≡ record { title = line .title; verification = verification; han = line .han; p5 = line .p5 } ⌝ }
-{
-    let title = line.title;
-    let han = line.han;
-    LineState {
-        title,
-        verification,
-        han,
-        p5: line.p5,
-    }
-}
-
-// The line with this part of a client that ciphers.
-fn with_cipher(line: LineState, client: CipherClient, part: CipherParty) -> LineState
-    ensures { λ r. ⌜ r ≡ withCipher client part line ⌝ }
-{
-    let title = line.title;
-    let verification = line.verification;
-    match client {
-        CipherClient::Han => LineState {
-            title,
-            verification,
-            han: part,
-            p5: line.p5,
-        },
-    }
 }
 
 // A party without an association, and nothing left of one.

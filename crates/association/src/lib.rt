@@ -10,40 +10,23 @@ pub use change::with_counters;
 pub use change::with_link;
 use cosem::ServiceKind;
 use cosem::Tag;
-use line::CipherParty;
 use line::LineState;
-use line::Party;
 use line::Phase;
+use line::agreed_in;
+use line::key_in;
+use line::party_of;
 use material::ReadyKeys;
 use model::CipherClient;
 use model::Client;
-use model::Counters;
 use protocol::Secrets;
 ghost use mathlib.Core.Path.{_≡_};
 ghost use mathlib.Core.List.{List};
 ghost use Prim.Native.Nat.{ℕ};
 ghost use Rattle.model.specs.State.{none, «pending» as pendingWith, associated};
 ghost use Rattle.material.specs.Material.{keysOf};
-ghost use Rattle.line.specs.View.{cipherOf, cipheringOf, lineOf};
-ghost use Rattle.protocol.specs.Clients.{agreedIn, bitAgreed, clientChallenge, counters, dedicatedKeys, held, isUnknown, keyIn, lentKeys, mayAskEnclosed, mayAskPlain, meterChallenge, peer, permitted, selectiveIn, serviceAgreed};
+ghost use Rattle.line.specs.View.{lineOf};
+ghost use Rattle.protocol.specs.Clients.{agreedIn, bitAgreed, dedicatedKeys, isUnknown, lentKeys, mayAskEnclosed, mayAskPlain, peer, permitted, selectiveIn, serviceAgreed};
 ghost use Rattle.protocol.specs.Decide.{heldByP5};
-ghost use Rattle.association.specs.Parties.{partyOf};
-
-// Whether the client's link is up.
-pub fn is_up(line: LineState, client: Client) -> bool
-    ensures { λ r. ⌜ r ≡ peer client (lineOf line) .up ⌝ }
-{
-    let p = party_of(line, client);
-    p.up
-}
-
-// The client's title.
-pub fn title_of(line: LineState, client: Client) -> [u8; 8]
-    ensures { λ r. ⌜ r ≡ peer client (lineOf line) .title ⌝ }
-{
-    let p = party_of(line, client);
-    p.title
-}
 
 // Whether P5 holds the client.
 pub fn is_held_by_p5(line: LineState, client: Client) -> bool
@@ -180,43 +163,6 @@ pub fn is_selective(line: LineState, client: Client) -> bool
     line::is_within([0x00, 0x00, 0x04], agreed)
 }
 
-// The counters of a client that ciphers.
-pub fn counters_of(line: LineState, client: CipherClient) -> Counters
-    ensures { λ r. ⌜ r ≡ counters client (lineOf line) ⌝ }
-{
-    match client {
-        CipherClient::Han => line.han.counters,
-    }
-}
-
-// The client's challenge.
-pub fn client_challenge(line: LineState, client: CipherClient) -> [u8; 8]
-    ensures { λ r. ⌜ r ≡ clientChallenge (held client (lineOf line)) ⌝ }
-{
-    let h = cipher_of(line, client);
-    let p = h.party;
-    let phase = p.phase;
-    match phase {
-        Phase::Idle => [0u8; 8],
-        Phase::Pending => h.client,
-        Phase::Associated => [0u8; 8],
-    }
-}
-
-// The meter's challenge to the client.
-pub fn meter_challenge(line: LineState, client: CipherClient) -> [u8; 8]
-    ensures { λ r. ⌜ r ≡ meterChallenge (held client (lineOf line)) ⌝ }
-{
-    let h = cipher_of(line, client);
-    let p = h.party;
-    let phase = p.phase;
-    match phase {
-        Phase::Idle => [0u8; 8],
-        Phase::Pending => h.meter,
-        Phase::Associated => [0u8; 8],
-    }
-}
-
 // The keys around an association's messages, made ready.
 pub fn lent_keys(secrets: Secrets) -> ReadyKeys
     ensures { λ r. ⌜ keysOf r ≡ lentKeys secrets ⌝ }
@@ -230,54 +176,6 @@ pub fn lent_keys(secrets: Secrets) -> ReadyKeys
 pub fn dedicated_keys(ak: [u8; 16], line: LineState, client: CipherClient) -> ReadyKeys
     ensures { λ r. ⌜ keysOf r ≡ dedicatedKeys ak client (lineOf line) ⌝ }
 {
-    let h = cipher_of(line, client);
-    let dedicated = key_in(h);
+    let dedicated = key_in(line, client);
     material::ready_keys(dedicated, ak)
-}
-
-// The client's party.
-fn party_of(line: LineState, client: Client) -> Party
-    ensures { λ r. ⌜ r ≡ partyOf client line ⌝ }
-{
-    match client {
-        Client::Verification => line.verification,
-        Client::Ciphering(c) => match c {
-            CipherClient::Han => line.han.party,
-        },
-    }
-}
-
-// The part of a client that ciphers.
-fn cipher_of(line: LineState, client: CipherClient) -> CipherParty
-    ensures { λ r. ⌜ r ≡ cipherOf client line ⌝ }
-{
-    match client {
-        CipherClient::Han => line.han,
-    }
-}
-
-// The services agreed with the client; zeros where it has no association.
-fn agreed_in(line: LineState, client: Client) -> [u8; 3]
-    ensures { λ r. ⌜ r ≡ agreedIn (peer client (lineOf line) .association) ⌝ }
-{
-    let p = party_of(line, client);
-    let phase = p.phase;
-    match phase {
-        Phase::Idle => [0u8; 3],
-        Phase::Pending => p.agreed,
-        Phase::Associated => p.agreed,
-    }
-}
-
-// The dedicated key; zeros where there is no association.
-fn key_in(part: CipherParty) -> [u8; 16]
-    ensures { λ r. ⌜ r ≡ keyIn (cipheringOf part .peer .association) ⌝ }
-{
-    let p = part.party;
-    let phase = p.phase;
-    match phase {
-        Phase::Idle => [0u8; 16],
-        Phase::Pending => part.key,
-        Phase::Associated => part.key,
-    }
 }

@@ -1,5 +1,18 @@
 // The line, which decides on frames: links, associations, counters, keys and titles. Its part of soundness, a new one, what
-// power-up leaves of it, and the line with zeros wherever it holds nothing.
+// power-up leaves of it, and the line with zeros wherever it holds nothing; in `clients`, what it tells of a client.
+mod clients;
+
+pub use clients::agreed_in;
+pub use clients::cipher_of;
+pub use clients::client_challenge;
+pub use clients::counters_of;
+pub use clients::is_up;
+pub use clients::key_in;
+pub use clients::meter_challenge;
+pub use clients::party_of;
+pub use clients::title_of;
+pub use clients::with_cipher;
+pub use clients::with_verification;
 use model::Counters;
 ghost use mathlib.Core.Path.{_≡_};
 ghost use mathlib.Core.List.{List};

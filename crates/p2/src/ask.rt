@@ -117,9 +117,9 @@ fn ask_enclosed(
 {
     let line = meter.line;
     let ak = secrets.ak;
-    let pair = association::counters_of(line, client);
+    let pair = line::counters_of(line, client);
     let keys = association::dedicated_keys(ak, line, client);
-    let title = association::title_of(line, Client::Ciphering(client));
+    let title = line::title_of(line, Client::Ciphering(client));
     let tag = cosem::dedicated_tag(kind);
     let mut text = [0u8; LONGEST_APDU];
     let admission = envelope::admit_envelope(keys, title, tag, pair, apdu, &mut text);
@@ -157,7 +157,7 @@ pub fn drop_association(line: LineState, client: CipherClient) -> Told
 pub fn accept_counter(line: LineState, client: CipherClient, counter: u32) -> LineState
     ensures { λ r. ⌜ lineOf r ≡ accepted client counter (lineOf line) ⌝ }
 {
-    let held = association::counters_of(line, client);
+    let held = line::counters_of(line, client);
     let pair = counters::accept(held, counter);
     association::with_counters(line, client, pair)
 }
@@ -205,7 +205,7 @@ fn answer_enclosed(
 {
     let line = meter.line;
     let body = meter.body;
-    let held = association::counters_of(line, client);
+    let held = line::counters_of(line, client);
     let pair = counters::accept(held, counter);
     let taken = counters::take(pair);
     let number = taken.number;

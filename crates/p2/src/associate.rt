@@ -33,7 +33,7 @@ pub fn associate(
     requires { ⌜ HasRoom (now out) ⌝ }
     ensures { λ r. ⌜ Tells (associating (lineOf line) secrets client head (now (apdu .entry)) (readAarq (now (apdu .entry)) client (peer client (lineOf line) .title))) line (now (out .entry)) (now (out .exit)) r ⌝ }
 {
-    let title = association::title_of(line, client);
+    let title = line::title_of(line, client);
     let aarq = acse::read_aarq(apdu, client, &title);
     match aarq {
         Aarq::Plain { services } => {
@@ -130,7 +130,7 @@ fn open_request(
     ensures { λ r. ⌜ Tells (enclosed (lineOf line) secrets client head challenge (opened (lentKeys secrets) (ciphering client (lineOf line) .peer .title) 0x21 (now (envelope .entry)))) line (now (out .entry)) (now (out .exit)) r ⌝ }
 {
     let keys = association::lent_keys(secrets);
-    let title = association::title_of(line, Client::Ciphering(client));
+    let title = line::title_of(line, Client::Ciphering(client));
     let mut text = [0u8; LONGEST_APDU];
     let Opening::Opens { counter, size } = envelope::open_envelope(
         keys,
@@ -208,7 +208,7 @@ fn accept_ciphered(
     ensures { λ r. ⌜ TellsWith keys secrets (acceptedCiphered (lineOf line) secrets client head challenge key proposed counter) line (now (out .entry)) (now (out .exit)) r ⌝ }
 {
     let title = line.title;
-    let held = association::counters_of(line, client);
+    let held = line::counters_of(line, client);
     let pair = counters::accept(held, counter);
     let next = counters::take(pair);
     let asking = Client::Ciphering(client);

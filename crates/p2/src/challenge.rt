@@ -56,9 +56,9 @@ fn hear_challenge(
     requires { ⌜ HasRoom (now out) ⌝ }
     ensures { λ r. ⌜ Tells (challengeEnclosed (lineOf line) secrets client head (now (apdu .entry))) line (now (out .entry)) (now (out .exit)) r ⌝ }
 {
-    let pair = association::counters_of(line, client);
+    let pair = line::counters_of(line, client);
     let keys = association::lent_keys(secrets);
-    let title = association::title_of(line, Client::Ciphering(client));
+    let title = line::title_of(line, Client::Ciphering(client));
     let mut text = [0u8; LONGEST_APDU];
     let admission = envelope::admit_envelope(keys, title, 0xCB, pair, apdu, &mut text);
     match admission {
@@ -161,9 +161,9 @@ fn proves_itself(
 ) -> bool
     ensures { λ r. ⌜ r ≡ rightProof (keysOf keys) (ciphering client (lineOf line) .peer .title) (meterChallenge (held client (lineOf line))) (counters client (lineOf line) .accepted) counter (proofIn (now (text .entry)) (request .wanted)) ⌝ }
 {
-    let title = association::title_of(line, Client::Ciphering(client));
-    let challenge = association::meter_challenge(line, client);
-    let pair = association::counters_of(line, client);
+    let title = line::title_of(line, Client::Ciphering(client));
+    let challenge = line::meter_challenge(line, client);
+    let pair = line::counters_of(line, client);
     let wanted = request.wanted;
     let proof = proof_in(text, wanted);
     envelope::is_right_proof(keys, title, challenge, pair, counter, proof)
@@ -199,11 +199,11 @@ fn prove(
     ensures { λ r. ⌜ TellsUnder keys (λ a. proved (lineOf line) a client head invoke counter) line (now (out .entry)) (now (out .exit)) r ⌝ }
 {
     let title = line.title;
-    let held = association::counters_of(line, client);
+    let held = line::counters_of(line, client);
     let pair = counters::accept(held, counter);
     let first = counters::take(pair);
     let second = counters::take(first.counters);
-    let challenge = association::client_challenge(line, client);
+    let challenge = line::client_challenge(line, client);
     let next = association::associated_ciphered(line, client, second.counters);
     let count = replies::send_proof(
         out,
@@ -236,7 +236,7 @@ fn disprove(
     ensures { λ r. ⌜ TellsUnder keys (λ a. disproved (lineOf line) a client head invoke counter) line (now (out .entry)) (now (out .exit)) r ⌝ }
 {
     let title = line.title;
-    let held = association::counters_of(line, client);
+    let held = line::counters_of(line, client);
     let pair = counters::accept(held, counter);
     let first = counters::take(pair);
     let advanced = association::with_counters(line, client, first.counters);

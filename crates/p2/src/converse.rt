@@ -35,7 +35,7 @@ pub fn carry(
     ensures { λ r. ⌜ Follows (carried (lineOf (meter .line)) secrets client head (now (apdu .entry))) meter (now (out .entry)) (now (out .exit)) r ⌝ }
 {
     let line = meter.line;
-    if !association::is_up(line, client) {
+    if !line::is_up(line, client) {
         return joined(refuse(line, head, out), meter);
     }
     converse(meter, secrets, client, head, apdu, out)

@@ -68,7 +68,7 @@ pub fn link_down(line: LineState, client: Client, head: Head, out: &mut [u8]) ->
     requires { ⌜ HasRoom (now out) ⌝ }
     ensures { λ r. ⌜ Tells (linkDown (lineOf line) client head) line (now (out .entry)) (now (out .exit)) r ⌝ }
 {
-    if !association::is_up(line, client) {
+    if !line::is_up(line, client) {
         return refuse(line, head, out);
     }
     let next = association::with_link(line, client, false);

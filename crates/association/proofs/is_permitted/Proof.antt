@@ -2,7 +2,7 @@
 use mathlib.Core.Path.{_∙_, ap}
 use Rattle.model.specs.State.{Association}
 use Rattle.protocol.specs.Clients.{permitted}
-use Rattle.association.proofs.PartyLaws.{association-of}
+use Rattle.line.proofs.PartyLaws.{association-of}
 use borrow.Author.Needs.{needs}
 use Rattle.association.proofs.is_permitted.Statement.{statement}
 use Rattle.association.proofs.is_permitted.Tie as tie

@@ -1,5 +1,5 @@
 -- `association::change::pending` meets its contract.
-use Rattle.association.proofs.PartyLaws.{pending-line}
+use Rattle.association.proofs.ChangeLaws.{pending-line}
 use borrow.Author.Needs.{needs}
 use Rattle.association.proofs.change.pending.Statement.{statement}
 use Rattle.association.proofs.change.pending.Tie as tie

@@ -1,5 +1,5 @@
 -- `association::change::with_counters` meets its contract.
-use Rattle.association.proofs.PartyLaws.{counted-line}
+use Rattle.association.proofs.ChangeLaws.{counted-line}
 use borrow.Author.Needs.{needs}
 use Rattle.association.proofs.change.with_counters.Statement.{statement}
 use Rattle.association.proofs.change.with_counters.Tie as tie

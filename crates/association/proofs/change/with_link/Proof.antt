@@ -1,7 +1,7 @@
 -- `association::change::with_link` meets its contract.
 use mathlib.Core.Path.{refl}
 use Rattle.line.specs.View.{lineOf}
-use Rattle.association.proofs.PartyLaws.{rested-line}
+use Rattle.association.proofs.ChangeLaws.{rested-line}
 use borrow.Author.Needs.{needs}
 use Rattle.association.proofs.change.with_link.Statement.{statement}
 use Rattle.association.proofs.change.with_link.Tie as tie

@@ -1,10 +1,10 @@
--- `association::client_challenge` meets its contract.
+-- `line::clients::client_challenge` meets its contract.
 use mathlib.Core.Path.{ap}
-use Rattle.protocol.specs.Clients.{clientChallenge}
-use Rattle.association.proofs.PartyLaws.{held-of}
+use Rattle.line.specs.Canonical.{clientChallenge}
+use Rattle.line.proofs.PartyLaws.{held-of}
 use borrow.Author.Needs.{needs}
-use Rattle.association.proofs.client_challenge.Statement.{statement}
-use Rattle.association.proofs.client_challenge.Tie as tie
+use Rattle.line.proofs.clients.client_challenge.Statement.{statement}
+use Rattle.line.proofs.clients.client_challenge.Tie as tie
 
 returns : tie.Need-returns
 returns c =

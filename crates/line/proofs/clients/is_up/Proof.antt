@@ -1,10 +1,10 @@
--- `association::is_up` meets its contract.
+-- `line::clients::is_up` meets its contract.
 use mathlib.Core.Path.{ap}
 use Rattle.model.specs.State.{Peer}
-use Rattle.association.proofs.PartyLaws.{peer-of}
+use Rattle.line.proofs.PartyLaws.{peer-of}
 use borrow.Author.Needs.{needs}
-use Rattle.association.proofs.is_up.Statement.{statement}
-use Rattle.association.proofs.is_up.Tie as tie
+use Rattle.line.proofs.clients.is_up.Statement.{statement}
+use Rattle.line.proofs.clients.is_up.Tie as tie
 
 returns : tie.Need-returns
 returns c = ap (λ (p : Peer). p .up) (peer-of (c .before .args .client) (c .before .args .line) _ (c .party-of .ensures))

@@ -1,8 +1,8 @@
--- `association::party_of` meets its contract.
+-- `line::clients::party_of` meets its contract.
 use Rattle.model.proofs.ClientLaws.{only-han}
 use borrow.Author.Needs.{needs}
-use Rattle.association.proofs.party_of.Statement.{statement}
-use Rattle.association.proofs.party_of.Tie as tie
+use Rattle.line.proofs.clients.party_of.Statement.{statement}
+use Rattle.line.proofs.clients.party_of.Tie as tie
 
 returns : tie.Need-returns
 returns c = rw (c .before .enum-told .given .1)

@@ -1,10 +1,10 @@
--- `association::agreed_in` meets its contract.
+-- `line::clients::agreed_in` meets its contract.
 use mathlib.Core.Path.{ap}
-use Rattle.protocol.specs.Clients.{agreedIn}
-use Rattle.association.proofs.PartyLaws.{association-of}
+use Rattle.line.specs.Canonical.{agreedIn}
+use Rattle.line.proofs.PartyLaws.{association-of}
 use borrow.Author.Needs.{needs}
-use Rattle.association.proofs.agreed_in.Statement.{statement}
-use Rattle.association.proofs.agreed_in.Tie as tie
+use Rattle.line.proofs.clients.agreed_in.Statement.{statement}
+use Rattle.line.proofs.clients.agreed_in.Tie as tie
 
 returns : tie.Need-returns
 returns c =

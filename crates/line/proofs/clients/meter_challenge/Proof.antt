@@ -1,10 +1,10 @@
--- `association::meter_challenge` meets its contract.
+-- `line::clients::meter_challenge` meets its contract.
 use mathlib.Core.Path.{ap}
-use Rattle.protocol.specs.Clients.{meterChallenge}
-use Rattle.association.proofs.PartyLaws.{held-of}
+use Rattle.line.specs.Canonical.{meterChallenge}
+use Rattle.line.proofs.PartyLaws.{held-of}
 use borrow.Author.Needs.{needs}
-use Rattle.association.proofs.meter_challenge.Statement.{statement}
-use Rattle.association.proofs.meter_challenge.Tie as tie
+use Rattle.line.proofs.clients.meter_challenge.Statement.{statement}
+use Rattle.line.proofs.clients.meter_challenge.Tie as tie
 
 returns : tie.Need-returns
 returns c =

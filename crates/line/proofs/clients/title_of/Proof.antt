@@ -1,10 +1,10 @@
--- `association::title_of` meets its contract.
+-- `line::clients::title_of` meets its contract.
 use mathlib.Core.Path.{ap}
 use Rattle.model.specs.State.{Peer}
-use Rattle.association.proofs.PartyLaws.{peer-of}
+use Rattle.line.proofs.PartyLaws.{peer-of}
 use borrow.Author.Needs.{needs}
-use Rattle.association.proofs.title_of.Statement.{statement}
-use Rattle.association.proofs.title_of.Tie as tie
+use Rattle.line.proofs.clients.title_of.Statement.{statement}
+use Rattle.line.proofs.clients.title_of.Tie as tie
 
 returns : tie.Need-returns
 returns c = ap (λ (p : Peer). p .title) (peer-of (c .before .before .args .client) (c .before .before .args .line) _ (c .before .party-of .ensures))

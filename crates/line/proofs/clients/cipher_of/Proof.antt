@@ -1,7 +1,7 @@
--- `association::cipher_of` meets its contract.
+-- `line::clients::cipher_of` meets its contract.
 use Rattle.model.proofs.ClientLaws.{only-han}
-use Rattle.association.proofs.cipher_of.Statement.{statement}
-use Rattle.association.proofs.cipher_of.Tie as tie
+use Rattle.line.proofs.clients.cipher_of.Statement.{statement}
+use Rattle.line.proofs.clients.cipher_of.Tie as tie
 
 returns : tie.Need-returns
 returns c = rw (only-han (c .before .args .client))

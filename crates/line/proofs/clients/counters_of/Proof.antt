@@ -1,8 +1,8 @@
--- `association::counters_of` meets its contract.
+-- `line::clients::counters_of` meets its contract.
 use Rattle.model.proofs.ClientLaws.{only-han}
 use Rattle.line.specs.View.{lineOf}
-use Rattle.association.proofs.counters_of.Statement.{statement}
-use Rattle.association.proofs.counters_of.Tie as tie
+use Rattle.line.proofs.clients.counters_of.Statement.{statement}
+use Rattle.line.proofs.clients.counters_of.Tie as tie
 
 returns : tie.Need-returns
 unfolding lineOf

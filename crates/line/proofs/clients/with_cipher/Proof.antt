@@ -1,7 +1,7 @@
--- `association::change::with_cipher` meets its contract.
+-- `line::clients::with_cipher` meets its contract.
 use Rattle.model.proofs.ClientLaws.{only-han}
-use Rattle.association.proofs.change.with_cipher.Statement.{statement}
-use Rattle.association.proofs.change.with_cipher.Tie as tie
+use Rattle.line.proofs.clients.with_cipher.Statement.{statement}
+use Rattle.line.proofs.clients.with_cipher.Tie as tie
 
 returns : tie.Need-returns
 returns c = rw (only-han (c .before .before .args .client))
