@@ -3,7 +3,7 @@
 ghost use mathlib.Core.Path.{_≡_};
 ghost use Rattle.ghash.specs.Product.{num};
 ghost use Rattle.gcm.specs.Gcm.{hashKey, bitLength, authenticated, tag, authentic, «gmac» as gmacOf, «ready» as readyOf};
-ghost use Rattle.gcm.specs.Calls.{under, keyOf, Sealed, Unsealed, bytesFrom};
+ghost use Rattle.gcm.specs.Calls.{under, keyOf, Sealed, Unsealed};
 use aes::RoundKey;
 use ghash::Block;
 
@@ -76,51 +76,6 @@ pub fn gmac(key: ReadyKey, nonce: [u8; 12], aad: &[u8]) -> [u8; 12]
     tag_under(w, h, nonce, aad, b"")
 }
 
-// The first sixteen bytes of a slice, as for a key; a byte past the end is 0.
-pub fn first_16(s: &[u8]) -> [u8; 16]
-    ensures { λ r. ⌜ r ≡ bytesFrom 16 0 (now (s .entry)) ⌝ }
-{
-    [
-        ghash::byte_at(s, 0),
-        ghash::byte_at(s, 1),
-        ghash::byte_at(s, 2),
-        ghash::byte_at(s, 3),
-        ghash::byte_at(s, 4),
-        ghash::byte_at(s, 5),
-        ghash::byte_at(s, 6),
-        ghash::byte_at(s, 7),
-        ghash::byte_at(s, 8),
-        ghash::byte_at(s, 9),
-        ghash::byte_at(s, 10),
-        ghash::byte_at(s, 11),
-        ghash::byte_at(s, 12),
-        ghash::byte_at(s, 13),
-        ghash::byte_at(s, 14),
-        ghash::byte_at(s, 15),
-    ]
-}
-
-// The first twelve bytes of a slice, as for a nonce; a byte past the end is 0.
-pub fn first_12(s: &[u8]) -> [u8; 12]
-    ensures { λ r. ⌜ r ≡ bytesFrom 12 0 (now (s .entry)) ⌝ }
-{
-    let k = first_16(s);
-    [
-        k[0],
-        k[1],
-        k[2],
-        k[3],
-        k[4],
-        k[5],
-        k[6],
-        k[7],
-        k[8],
-        k[9],
-        k[10],
-        k[11],
-    ]
-}
-
 // The key schedule of a key that is ready.
 fn schedule_of(key: ReadyKey) -> [[[u8; 4]; 4]; 11]
     ensures { λ r. ⌜ r ≡ keyOf key .schedule ⌝ }
@@ -135,7 +90,7 @@ fn tag_under(w: [[[u8; 4]; 4]; 11], h: Block, nonce: [u8; 12], aad: &[u8], c: &[
 {
     let mut s = ghash::bytes_of(authenticate(h, aad, c));
     gctr::encipher(w, nonce, 1, &mut s);
-    first_12(&s)
+    wire::twelve_at(&s, 0)
 }
 
 // The hash of associated data, cipher text and their lengths.
