@@ -19,8 +19,9 @@ use Rattle.protocol.specs.Decide.{p2}
 use Rattle.protocol.specs.Outcomes.{keeping}
 use Rattle.protocol.proofs.Claim.{p2-stays-sound}
 use Rattle.protocol.proofs.Outcomes.{row-lent}
-use Rattle.p2.specs.declared.Received.{Received}
-use Rattle.p2.specs.Promise.{Answered, handed as received}
+use Rattle.ending.specs.declared.Received.{Received}
+use Rattle.ending.specs.Handed.{handed as received}
+use Rattle.p2.specs.Promise.{Answered}
 use Rattle.image.specs.declared.Status.{Status}
 use Rattle.image.specs.declared.Status.the-variants.{Whole}
 use Rattle.image.specs.Image.{meterOf, meterIn, statusOf, imageRefusal}

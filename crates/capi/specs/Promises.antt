@@ -17,7 +17,7 @@ use Rattle.meter.specs.declared.Meter.{Meter}
 use Rattle.meter.specs.View.{view}
 use Rattle.protocol.specs.Decide.{p2}
 use Rattle.protocol.specs.Outcomes.{keeping}
-use Rattle.p2.specs.declared.Received.{Received}
+use Rattle.ending.specs.declared.Received.{Received}
 use Rattle.image.specs.declared.Status.the-variants.{Whole}
 use Rattle.image.specs.Image.{imageSize, meterOf, statusOf}
 use Rattle.owner_calls.specs.Promises.{imageFor, handedBack, Stores}

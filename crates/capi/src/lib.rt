@@ -6,8 +6,8 @@
 // include/birlimock.h has the calls as C sees them.
 mod frame;
 
+use ending::Received;
 use image::SIZE;
-use p2::Received;
 ghost use mathlib.Core.Path.{_≡_};
 ghost use lib.ListN.{length};
 ghost use Rattle.image.specs.Image.{imageSize};

@@ -1,5 +1,3 @@
 pub mod LentLaws
-pub mod Endings
-pub mod Lengths
-pub mod Envelopes
+pub mod CallLaws
 pub mod Runs

@@ -9,8 +9,9 @@ use Rattle.meter.specs.declared.Changed.{Changed}
 use Rattle.meter.specs.View.{view}
 use Rattle.meter.specs.Promise.{Owned, handed as handedByOwner}
 use Rattle.protocol.specs.Decide.{p2}
-use Rattle.p2.specs.declared.Received.{Received}
-use Rattle.p2.specs.Promise.{Answered, handed}
+use Rattle.ending.specs.declared.Received.{Received}
+use Rattle.ending.specs.Handed.{handed}
+use Rattle.p2.specs.Promise.{Answered}
 
 -- what the function behind a call ensures, on this meter, of what it hands back
 pub data Ensured (m : Meter) : Call → Handed Meter view → Type 0 where

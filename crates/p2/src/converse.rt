@@ -1,26 +1,25 @@
 // An APDU on a link: whether the link is up, what the association permits, then by its tag.
-use crate::Received;
-use crate::Told;
-use crate::ask::ask_ciphered;
-use crate::ask::ask_plain;
-use crate::associate::associate;
-use crate::challenge::hear_ciphered;
-use crate::ending::except;
-use crate::ending::joined;
 use crate::links::refuse;
+use asking::ask_ciphered;
+use asking::ask_plain;
 use cosem::Exception;
 use cosem::Tag;
+use ending::Received;
+use ending::Told;
+use ending::except;
+use ending::joined;
+use entering::associate;
+use entering::hear_ciphered;
 use hdlc::Head;
 use line::LineState;
 use meter::Meter;
 use model::Client;
 use protocol::Secrets;
-ghost use mathlib.Core.Path.{_≡_};
 ghost use Rattle.cosem.specs.Tags.{tagIn};
 ghost use Rattle.line.specs.View.{lineOf};
 ghost use Rattle.protocol.specs.Decide.{byTag, carried, conversed, released};
 ghost use Rattle.replies.specs.Room.{HasRoom};
-ghost use Rattle.p2.specs.Inner.{Follows, Ready, Tells};
+ghost use Rattle.ending.specs.Inner.{Follows, Ready, Tells};
 
 // An APDU.
 pub fn carry(

@@ -1,45 +1,26 @@
 // The frame call: a meter, a received frame, the keys and the challenge that are lent, and a reply room; a number, how many
 // bytes of the reply room go out, and the meter come back. It answers for every frame, every length lent and every meter.
-mod ask;
-mod associate;
-mod challenge;
 mod converse;
-mod ending;
 mod links;
 
+use ending::Received;
 use ending::joined;
 use ending::kept;
 use hdlc::Frame;
-use line::LineState;
 use meter::Meter;
 use protocol::Secrets;
 ghost use mathlib.Core.Path.{_≡_};
 ghost use mathlib.Core.List.{[]};
 ghost use lib.ListN.{length};
-ghost use Rattle.model.specs.Soundness.{sound};
 ghost use Rattle.model.specs.Calls.{lentRefusal};
 ghost use Rattle.hdlc.specs.Reading.{readFrame};
 ghost use Rattle.line.specs.View.{lineOf};
 ghost use Rattle.protocol.specs.Decide.{heard};
-ghost use Rattle.p2.specs.Promise.{Answered, lent};
-ghost use Rattle.p2.specs.Inner.{Follows, Ready, received, secretsIn};
+ghost use Rattle.ending.specs.Inner.{Follows, Ready, received};
+ghost use Rattle.p2.specs.Promise.{Answered, lent, secretsIn};
 
 // The reply room that a call asks for.
 const REPLY_ROOM: usize = 779;
-
-// What a frame call hands back: the number of its refusal, or 0, how many bytes of the reply room go out, and the meter.
-pub struct Received {
-    pub refusal: u8,
-    pub count: usize,
-    pub meter: Meter,
-}
-
-// What the line answers by itself: the same, with the line. No register, row or clock has a part in it.
-struct Told {
-    refusal: u8,
-    count: usize,
-    line: LineState,
-}
 
 // A frame is received. Refusals 1 to 13.
 pub fn receive(

@@ -1,5 +1,5 @@
 // Links: frames that are refused by FRMR or DM, links that come up and go down.
-use crate::Told;
+use ending::Told;
 use hdlc::FrameTest;
 use hdlc::Head;
 use line::LineState;
@@ -9,7 +9,7 @@ ghost use Rattle.line.specs.View.{lineOf};
 ghost use Rattle.protocol.specs.Rulings.{Test, dm, frame, refusalOf, reject as frmr, says};
 ghost use Rattle.protocol.specs.Decide.{linkDown, linkUp};
 ghost use Rattle.replies.specs.Room.{HasRoom};
-ghost use Rattle.p2.specs.Inner.{Tells};
+ghost use Rattle.ending.specs.Inner.{Tells};
 
 // FRMR.
 pub fn reject(line: LineState, head: Head, test: FrameTest, out: &mut [u8]) -> Told

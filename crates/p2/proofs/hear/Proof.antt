@@ -3,7 +3,7 @@ use mathlib.Core.Path.{sym, _∙_}
 use native.Mathlib.Omega.{arith}
 use Rattle.hdlc.proofs.ReadingLaws.{read-told}
 use Rattle.protocol.specs.Rulings.{frame, nothing}
-use Rattle.p2.proofs.Endings.{nothing-sent, says-kept}
+use Rattle.ending.proofs.Endings.{nothing-sent, says-kept}
 use borrow.Author.Needs.{needs}
 use Rattle.p2.proofs.hear.Statement.{statement}
 use Rattle.p2.proofs.hear.Tie as tie

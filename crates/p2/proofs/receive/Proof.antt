@@ -6,7 +6,7 @@ use Rattle.wire.proofs.ReadingLaws.{filled-whole}
 use Rattle.meter.specs.View.{view}
 use Rattle.protocol.specs.Decide.{ruled}
 use Rattle.p2.proofs.LentLaws.{lent-told, lent-lengths}
-use Rattle.p2.proofs.Endings.{lent-refused, unsound-refused, ruled-answered}
+use Rattle.p2.proofs.CallLaws.{lent-refused, unsound-refused, ruled-answered}
 use borrow.Author.Needs.{needs}
 use Rattle.p2.proofs.receive.Statement.{statement}
 use Rattle.p2.proofs.receive.Tie as tie

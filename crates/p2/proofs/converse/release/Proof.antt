@@ -4,12 +4,12 @@ use borrow.Author.Tests.{not-true, not-false}
 use Rattle.cosem.specs.Tags.{releaseResponse}
 use Rattle.protocol.specs.Rulings.{none, apdu, malformedApdu}
 use Rattle.protocol.specs.Decide.{released}
-use Rattle.p2.proofs.Endings.{says-line, ends-one}
+use Rattle.ending.proofs.Endings.{says-line, ends-one}
 use Rattle.line.specs.View.{lineOf}
 use Rattle.protocol.specs.Clients.{withAssociation, peer}
 use Rattle.model.specs.State.{none as noAssociation}
 use borrow.Author.Needs.{needs}
-use Rattle.p2.specs.Inner.{meterWith}
+use Rattle.ending.specs.Inner.{meterWith}
 use Rattle.p2.proofs.converse.release.Statement.{statement}
 use Rattle.p2.proofs.converse.release.Tie as tie
 

@@ -5,12 +5,12 @@ use borrow.Author.Tests.{not-true, not-false}
 use Rattle.model.proofs.LimitFacts.{reply-room}
 use Rattle.protocol.specs.Rulings.{none, linkDownWhileDown, ua}
 use Rattle.protocol.specs.Decide.{linkDown}
-use Rattle.p2.proofs.Endings.{says-line, ends-one}
+use Rattle.ending.proofs.Endings.{says-line, ends-one}
 use Rattle.line.specs.View.{lineOf}
 use Rattle.protocol.specs.Clients.{linked, peer}
 use mathlib.Core.Bool.{false}
 use borrow.Author.Needs.{needs}
-use Rattle.p2.specs.Inner.{meterWith}
+use Rattle.ending.specs.Inner.{meterWith}
 use Rattle.p2.proofs.links.link_down.Statement.{statement}
 use Rattle.p2.proofs.links.link_down.Tie as tie
 

@@ -4,12 +4,12 @@ use native.Mathlib.Omega.{arith}
 use Rattle.model.proofs.LimitFacts.{reply-room}
 use Rattle.protocol.specs.Rulings.{none, linkUpWithInformation, p5HoldsV, ua}
 use Rattle.protocol.specs.Decide.{linkUp}
-use Rattle.p2.proofs.Endings.{says-line, ends-one}
+use Rattle.ending.proofs.Endings.{says-line, ends-one}
 use Rattle.line.specs.View.{lineOf}
 use Rattle.protocol.specs.Clients.{linked, peer}
 use mathlib.Core.Bool.{true}
 use borrow.Author.Needs.{needs}
-use Rattle.p2.specs.Inner.{meterWith}
+use Rattle.ending.specs.Inner.{meterWith}
 use Rattle.p2.proofs.links.link_up.Statement.{statement}
 use Rattle.p2.proofs.links.link_up.Tie as tie
 

@@ -3,9 +3,9 @@ use mathlib.Core.Path.{sym}
 use native.Mathlib.Omega.{arith}
 use Rattle.model.proofs.LimitFacts.{reply-room}
 use Rattle.protocol.specs.Rulings.{dm}
-use Rattle.p2.proofs.Endings.{says-kept}
+use Rattle.ending.proofs.Endings.{says-kept}
 use borrow.Author.Needs.{needs}
-use Rattle.p2.specs.Inner.{meterWith}
+use Rattle.ending.specs.Inner.{meterWith}
 use Rattle.p2.proofs.links.refuse.Statement.{statement}
 use Rattle.p2.proofs.links.refuse.Tie as tie
 

@@ -2,9 +2,9 @@
 use native.Mathlib.Omega.{arith}
 use Rattle.model.proofs.LimitFacts.{reply-room}
 use Rattle.protocol.specs.Rulings.{frame, reject}
-use Rattle.p2.proofs.Endings.{says-kept}
+use Rattle.ending.proofs.Endings.{says-kept}
 use borrow.Author.Needs.{needs}
-use Rattle.p2.specs.Inner.{meterWith}
+use Rattle.ending.specs.Inner.{meterWith}
 use Rattle.p2.proofs.links.reject.Statement.{statement}
 use Rattle.p2.proofs.links.reject.Tie as tie
 

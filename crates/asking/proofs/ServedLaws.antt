@@ -1,0 +1,114 @@
+-- How a request ends that the body answers: from what was written and went out, the number and the body afterwards, to what the
+-- ruling promises.
+use mathlib.Core.Path.{_≡_, refl, sym, ap, _∙_}
+use mathlib.Core.Bool.{true, false, false≢true}
+use mathlib.Core.List.{List}
+use Prim.Native.Nat.{ℕ, _-_, _≤_, _<_}
+use native.Mathlib.Omega.{arith}
+use lib.ListN.{length, take, drop}
+use Rattle.model.specs.Periods.{listed}
+use Rattle.model.specs.Limits.{longestSent, textRoom, envelopeLength}
+use Rattle.model.specs.declared.CipherClient.{CipherClient}
+use Rattle.model.specs.declared.Client.the-variants.{Verification, Ciphering}
+use Rattle.model.specs.State.{Line, Body}
+use Rattle.model.specs.Objects.{Request, Service, get, action, meaning, Result, granted, denied, refusalOf as resultNumber, attributeRead, methodInvoked, getAnswer, actionAnswer, answered, turned}
+use Rattle.model.specs.Calls.{Wrap}
+use Rattle.wire_write.proofs.WroteLaws.{there}
+use Rattle.hdlc.specs.declared.Head.{Head}
+use Rattle.hdlc.specs.Replies.{apduFrame, Sent}
+use Rattle.hdlc_write.proofs.ReplyLaws.{length-apdu}
+use Rattle.cosem.specs.Tags.{answerTag}
+use Rattle.material.specs.Material.{Keys}
+use Rattle.envelope.specs.Layout.{sealedEnvelope}
+use Rattle.envelope.proofs.CloseLaws.{envelope-size, length-envelope}
+use Rattle.answers.specs.declared.Answered.{Answered as BodyAnswer}
+use Rattle.answers.specs.Promise.{Turns}
+use Rattle.line.specs.declared.LineState.{LineState}
+use Rattle.line.specs.View.{lineOf}
+use Rattle.body.specs.declared.BodyState.{BodyState}
+use Rattle.body.specs.View.{bodyOf}
+use Rattle.meter.specs.declared.Meter.{Meter}
+use Rattle.meter.specs.View.{view}
+use Rattle.protocol.specs.Clients.{counters, dedicatedKeys}
+use Rattle.protocol.specs.Rulings.{asks}
+use Rattle.protocol.specs.Outcomes.{keeping}
+use Rattle.protocol.specs.Decide.{wrap, around, seal}
+use Rattle.ending.specs.Inner.{received, SameAssociations, Follows}
+use Rattle.ending.proofs.Endings.{sent-over, leaves, same-wipes}
+
+-- the body denies by 13, and by no other number
+turned-free : (q : Request) (b : Body) → listed (turned q b .refusal) keeping ≡ false
+unfolding turned
+turned-free q b = go (q .service)
+  where
+    result : (x : Result) → listed (resultNumber x) keeping ≡ false
+    result (granted d) = refl
+    result (denied c) = refl
+
+    go : (s : Service) → listed (answered q b (meaning (q .client) (q .name) (b .store .registers)) s .refusal) keeping ≡ false
+    go (get a s) = result (attributeRead q a s b (meaning (q .client) (q .name) (b .store .registers)))
+    go (action k v) = result (methodInvoked q k v (meaning (q .client) (q .name) (b .store .registers)))
+
+-- the body answers
+pub serves : (q : Request) (w : Wrap) (m : Meter) (next : LineState) {becomes : Line} (b : BodyState) {l o : List ℕ} {n k : ℕ}
+    → lineOf next ≡ becomes
+    → n ≡ turned q (bodyOf (m .body)) .refusal
+    → bodyOf b ≡ turned q (bodyOf (m .body)) .body
+    → Sent (seal becomes w (turned q (bodyOf (m .body)) .bytes)) l o k
+    → SameAssociations (lineOf (m .line)) becomes
+    → Follows (asks q w becomes) m l o (received n k (record { line = next; body = b }))
+unfolding view
+serves q w m next {becomes} b v e f s a =
+    record {
+      gave = record { refusal = e; count = s .count; meter = rw (v, f) refl; room = s .holds };
+      kept = λ g. absurd (false≢true (sym (turned-free q (bodyOf (m .body))) ∙ ap (λ (y : ℕ). listed y keeping) (sym e) ∙ g));
+      wiped = leaves m next v b (same-wipes next a);
+    }
+
+-- an answer of the body has some bytes
+turned-some : (q : Request) (b : Body) → 0 < length (turned q b .bytes)
+unfolding turned
+turned-some q b = go (q .service)
+  where
+    got : (i : ℕ) (x : Result) → 0 < length (getAnswer i x)
+    got i (granted d) = omega arith
+    got i (denied c) = omega arith
+
+    acted : (i : ℕ) (x : Result) → 0 < length (actionAnswer i x)
+    acted i (granted d) = omega arith
+    acted i (denied c) = omega arith
+
+    go : (s : Service) → 0 < length (answered q b (meaning (q .client) (q .name) (b .store .registers)) s .bytes)
+    go (get a s) = got (q .invoke) (attributeRead q a s b (meaning (q .client) (q .name) (b .store .registers)))
+    go (action k v) = acted (q .invoke) (methodInvoked q k v (meaning (q .client) (q .name) (b .store .registers)))
+
+-- The body's answer that was written at a place: how long it is, and that it goes out.
+module _ (q : Request) (b : Body) (at : ℕ) {l m : List ℕ} {r : BodyAnswer} (t : Turns (turned q b) l at m r) where
+  pub answer-size : r .next - at ≡ length (turned q b .bytes)
+  answer-size = omega (arith, t .wrote .next)
+
+  pub answer-some : 0 < r .next - at
+  answer-some = omega (arith, answer-size, turned-some q b)
+
+  pub answer-short : r .next - at ≤ textRoom longestSent
+  answer-short = omega (arith, t .short)
+
+  answer-there : take (r .next - at) (drop at m) ≡ turned q b .bytes
+  answer-there = ap (λ (n : ℕ). take n (drop at m)) answer-size ∙ there (t .wrote)
+
+  pub plain-sent : (ak : List ℕ) (h : Head) (n : Line) {o : List ℕ} {k : ℕ} → at ≤ 14 → Sent (apduFrame h (take (r .next - at) (drop at m))) m o k → Sent (seal n (wrap ak Verification h 0xC0) (turned q b .bytes)) l o k
+  unfolding seal around
+  plain-sent ak h n e s =
+      let bs = turned q b .bytes in
+      sent-over (t .wrote) (rw (answer-there) at s) (omega (arith, t .wrote .next, length-apdu h bs))
+
+  pub enclosed-sent : (c : CipherClient) (ak title : List ℕ) (h : Head) (tag counter : ℕ) (keys : Keys) (n : Line) {o : List ℕ} {k : ℕ} → at ≤ 20
+      → keys ≡ dedicatedKeys ak c n → title ≡ n .title → counter ≡ counters c n .sent
+      → Sent (apduFrame h (sealedEnvelope keys title (answerTag tag) counter (take (r .next - at) (drop at m)))) m o k
+      → Sent (seal n (wrap ak (Ciphering c) h tag) (turned q b .bytes)) l o k
+  unfolding seal around
+  enclosed-sent c ak title h tag counter keys n e ek et ec s =
+      let bs = turned q b .bytes in
+      let u = rw (answer-there, ek, et, ec) at s in
+      let z : length (sealedEnvelope (dedicatedKeys ak c n) (n .title) (answerTag tag) (counters c n .sent) bs) ≡ envelopeLength (length bs) = length-envelope (dedicatedKeys ak c n) (n .title) (answerTag tag) (counters c n .sent) bs in
+      sent-over (t .wrote) u (omega (arith, t .wrote .next, z, envelope-size (length bs), length-apdu h (sealedEnvelope (dedicatedKeys ak c n) (n .title) (answerTag tag) (counters c n .sent) bs)))

@@ -1,0 +1,91 @@
+// How the line answers: as it was, as another, or with an exception; and the meter that has what it became.
+use cosem::Exception;
+use hdlc::Head;
+use line::LineState;
+use meter::Meter;
+use model::CipherClient;
+use model::Client;
+ghost use mathlib.Core.Path.{_≡_};
+ghost use mathlib.Core.List.{List};
+ghost use Prim.Native.Nat.{ℕ};
+ghost use Rattle.model.specs.State.{none};
+ghost use Rattle.model.specs.declared.Client.the-variants.{Ciphering};
+ghost use Rattle.line.specs.View.{lineOf};
+ghost use Rattle.protocol.specs.Clients.{associates};
+ghost use Rattle.protocol.specs.Rulings.{nothing, outsideWindow, says};
+ghost use Rattle.protocol.specs.Decide.{accepted};
+ghost use Rattle.replies.specs.Room.{HasRoom};
+ghost use Rattle.ending.specs.Inner.{Excepts, meterWith, received, Tells, told};
+
+// What a frame call hands back: the number of its refusal, or 0, how many bytes of the reply room go out, and the meter.
+pub struct Received {
+    pub refusal: u8,
+    pub count: usize,
+    pub meter: Meter,
+}
+
+// What the line answers by itself: the same, with the line. No register, row or clock has a part in it.
+pub struct Told {
+    pub refusal: u8,
+    pub count: usize,
+    pub line: LineState,
+}
+
+// Nothing goes out, and the line is as it was.
+pub fn kept(refusal: u8, line: LineState) -> Told
+    ensures { λ r. ⌜ r ≡ told refusal 0 line ⌝ }
+{
+    Told {
+        refusal,
+        count: 0,
+        line,
+    }
+}
+
+// An exception, and the line becomes this one, with the same associations as before.
+pub fn except(line: LineState, head: Head, e: Exception, out: &mut [u8]) -> Told
+    requires { ⌜ HasRoom (now out) ⌝ }
+    ensures { λ r. ⌜ Excepts e head line (now (out .entry)) (now (out .exit)) r ⌝ }
+{
+    let count = replies::send_exception(out, head, e);
+    Told {
+        refusal: 12,
+        count,
+        line,
+    }
+}
+
+// What the line answered, with the meter: its body is as it was.
+pub fn joined(answer: Told, meter: Meter) -> Received
+    ensures { λ r. ⌜ r ≡ received (answer .refusal) (answer .count) (meterWith (answer .line) (meter .body)) ⌝ }
+{
+    let line = answer.line;
+    let body = meter.body;
+    let next = Meter { line, body };
+    Received {
+        refusal: answer.refusal,
+        count: answer.count,
+        meter: next,
+    }
+}
+
+// Refusal 7: nothing goes out, and the client's association is dropped.
+pub fn drop_association(line: LineState, client: CipherClient) -> Told
+    ensures { λ r. ⌜ ((l : List ℕ) → Tells (says outsideWindow nothing (associates (Ciphering client) none (lineOf line))) line l l r) ⌝ }
+{
+    let next = association::ended(line, Client::Ciphering(client));
+    Told {
+        refusal: 7,
+        count: 0,
+        line: next,
+    }
+}
+
+// The line with a counter of the client's as the last accepted.
+pub fn accept_counter(line: LineState, client: CipherClient, counter: u32) -> LineState
+    ensures { λ r. ⌜ lineOf r ≡ accepted client counter (lineOf line) ⌝ }
+{
+    let held = line::counters_of(line, client);
+    let pair = counters::accept(held, counter);
+    association::with_counters(line, client, pair)
+}
