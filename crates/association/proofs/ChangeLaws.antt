@@ -9,22 +9,24 @@ use Rattle.model.specs.declared.Counters.{Counters}
 use Rattle.model.specs.declared.Client.the-variants.{Ciphering}
 use Rattle.model.specs.declared.CipherClient.the-variants.{Han}
 use Rattle.model.specs.State.{pending}
-use Rattle.line.specs.declared.Phase.the-variants.{Idle, Pending, Associated}
+use Rattle.line.specs.declared.Phase.the-variants.{Pending, Associated}
 use Rattle.line.specs.declared.Party.{Party}
 use Rattle.line.specs.declared.CipherParty.{CipherParty}
 use Rattle.line.specs.declared.LineState.{LineState}
+use Rattle.line.specs.Left.{restingCipher}
 use Rattle.line.specs.Parties.{partyOf, withCipher}
 use Rattle.line.specs.View.{cipherOf, lineOf}
-use Rattle.protocol.specs.Clients.{agreedIn, associates, held, keyIn, linked, peer, withCounters, withPeer}
+use Rattle.protocol.specs.Clients.{agreedIn, associates, counters, held, keyIn, linked, peer, withCounters, withPeer}
 use Rattle.association.specs.Ends.{Answered, Ends}
 
-pub rested-line : (c : CipherClient) (up : Bool) (l r : LineState) (h : CipherParty) (p : Party) → h ≡ cipherOf c l
-    → p ≡ record { title = h .party .title; up = up; phase = Idle; agreed = replicate 3 0 }
-    → r ≡ withCipher c (record { party = p; key = replicate 16 0; client = replicate 8 0; meter = replicate 8 0; counters = h .counters }) l
+pub rested-line : (c : CipherClient) (up : Bool) (l r : LineState) (t : List ℕ) (n : Counters) (h : CipherParty) → t ≡ peer (Ciphering c) (lineOf l) .title
+    → n ≡ counters c (lineOf l)
+    → h ≡ restingCipher t up n
+    → r ≡ withCipher c h l
     → Ends (Ciphering c) (withPeer (Ciphering c) (linked up (peer (Ciphering c) (lineOf l))) (lineOf l)) r
 unfolding lineOf
-rested-line Han up l r h p e f g =
-    rw (g, f, e) (record { view = refl; wiped = record { agreed = refl; key = refl; challenges = record { client = refl; meter = refl } } })
+rested-line Han up l r t n h e f g k =
+    rw (k, g, e, f) (record { view = refl; wiped = record { agreed = refl; key = refl; challenges = record { client = refl; meter = refl } } })
 
 pub pending-line : (c : CipherClient) (n : Counters) (l r : LineState) (q p : Party) (agreed key theirs ours : List ℕ) → q ≡ partyOf (Ciphering c) l
     → p ≡ record { title = q .title; up = q .up; phase = Pending; agreed = agreed }

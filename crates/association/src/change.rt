@@ -6,9 +6,13 @@ use line::Party;
 use line::Phase;
 use line::agreed_in;
 use line::cipher_of;
+use line::counters_of;
 use line::is_up;
 use line::key_in;
 use line::party_of;
+use line::resting;
+use line::resting_cipher;
+use line::title_of;
 use line::with_cipher;
 use line::with_verification;
 use model::CipherClient;
@@ -16,7 +20,6 @@ use model::Client;
 use model::Counters;
 ghost use mathlib.Core.Path.{_≡_};
 ghost use mathlib.Core.List.{[]};
-ghost use lib.ListN.{replicate};
 ghost use Rattle.model.specs.declared.Client.the-variants.{Verification, Ciphering};
 ghost use Rattle.model.specs.State.{none, «pending» as pendingWith, associated};
 ghost use Rattle.line.specs.View.{lineOf};
@@ -27,24 +30,15 @@ ghost use Rattle.association.specs.Ends.{Answered, Ends};
 pub fn with_link(line: LineState, client: Client, up: bool) -> LineState
     ensures { λ r. ⌜ Ends client (withPeer client (linked up (peer client (lineOf line))) (lineOf line)) r ⌝ }
 {
+    let title = title_of(line, client);
     match client {
         Client::Verification => {
-            let v = line.verification;
-            let w = resting(v, up);
-            with_verification(line, w)
+            let v = resting(title, up);
+            with_verification(line, v)
         }
         Client::Ciphering(c) => {
-            let h = cipher_of(line, c);
-            let p = h.party;
-            let party = resting(p, up);
-            let counters = h.counters;
-            let k = CipherParty {
-                party,
-                key: [0u8; 16],
-                client: [0u8; 8],
-                meter: [0u8; 8],
-                counters,
-            };
+            let counters = counters_of(line, c);
+            let k = resting_cipher(title, up, counters);
             with_cipher(line, c, k)
         }
     }
@@ -126,19 +120,6 @@ pub fn with_counters(line: LineState, client: CipherClient, counters: Counters) 
         counters,
     };
     with_cipher(line, client, k)
-}
-
-// A party without an association, and nothing left of one.
-fn resting(party: Party, up: bool) -> Party
-    ensures { λ r. ⌜ r ≡ record { title = party .title; up = up; phase = Phase.Idle; agreed = replicate 3 0 } ⌝ }
-{
-    let title = party.title;
-    Party {
-        title,
-        up,
-        phase: Phase::Idle,
-        agreed: [0u8; 3],
-    }
 }
 
 // A party whose association has come so far.

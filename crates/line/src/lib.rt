@@ -17,12 +17,10 @@ use model::Counters;
 ghost use mathlib.Core.Path.{_≡_};
 ghost use mathlib.Core.List.{List};
 ghost use Prim.Native.Nat.{ℕ};
-ghost use lib.ListN.{replicate};
 ghost use Rattle.model.specs.Services.{within};
 ghost use Rattle.model.specs.Soundness.{agreedWithin, kindsKnown, linksStand, onLink, servicesOffered, lineSound};
-ghost use Rattle.model.specs.State.{newPeer, noCounters};
 ghost use Rattle.line.specs.Canonical.{clearedCipherParty, clearedLine, clearedParty};
-ghost use Rattle.line.specs.Left.{Restarted};
+ghost use Rattle.line.specs.Left.{Restarted, restingCipher, restingParty, startedLine};
 ghost use Rattle.line.specs.View.{associationOf, lineOf, newLine, peerOf};
 
 // How far an association has come.
@@ -151,15 +149,7 @@ pub fn is_within(a: [u8; 3], o: [u8; 3]) -> bool
 pub fn new_line(title: [u8; 8], verification: [u8; 8], han: [u8; 8]) -> LineState
     ensures { λ r. ⌜ lineOf r ≡ newLine title verification han ⌝ }
 {
-    let v = new_party(verification);
-    let p = new_party(han);
-    let h = new_cipher_party(p);
-    LineState {
-        title,
-        verification: v,
-        han: h,
-        p5: false,
-    }
+    started(title, verification, han, false)
 }
 
 // Links and associations end and counters are cleared; an ended association leaves nothing in its fields.
@@ -167,41 +157,46 @@ pub fn powered_up(line: LineState) -> LineState
     ensures { λ r. ⌜ Restarted line r ⌝ }
 {
     let title = line.title;
-    let v = line.verification;
-    let t = v.title;
-    let w = new_party(t);
-    let h = line.han;
-    let p = h.party;
-    let u = p.title;
-    let q = new_party(u);
-    let k = new_cipher_party(q);
+    let verification = line.verification.title;
+    let han = line.han.party.title;
+    started(title, verification, han, line.p5)
+}
+
+// A line of these titles on which nothing has happened.
+fn started(title: [u8; 8], verification: [u8; 8], han: [u8; 8], p5: bool) -> LineState
+    ensures { λ r. ⌜ r ≡ startedLine title verification han p5 ⌝ }
+{
+    let v = resting(verification, false);
+    let counters = Counters {
+        accepted: 0,
+        sent: 0,
+    };
+    let h = resting_cipher(han, false, counters);
     LineState {
         title,
-        verification: w,
-        han: k,
-        p5: line.p5,
+        verification: v,
+        han: h,
+        p5,
     }
 }
 
-// A client whose link is down; its association is none, whatever key and challenges stand beside it.
-fn new_party(title: [u8; 8]) -> Party
-    ensures { λ r. ⌜ ((k c s : List ℕ) → peerOf r k c s ≡ newPeer title) × (r .agreed ≡ replicate 3 0) ⌝ }
+// A client without an association, and nothing left of one.
+pub fn resting(title: [u8; 8], up: bool) -> Party
+    ensures { λ r. ⌜ r ≡ restingParty title up ⌝ }
 {
     Party {
         title,
-        up: false,
+        up,
         phase: Phase::Idle,
         agreed: [0u8; 3],
     }
 }
 
-fn new_cipher_party(party: Party) -> CipherParty
-    ensures { λ r. ⌜ (r .party ≡ party) × (r .counters ≡ noCounters) × (r .key ≡ replicate 16 0) × (r .client ≡ replicate 8 0) × (r .meter ≡ replicate 8 0) ⌝ }
+// Such a client that ciphers: it keeps its counters.
+pub fn resting_cipher(title: [u8; 8], up: bool, counters: Counters) -> CipherParty
+    ensures { λ r. ⌜ r ≡ restingCipher title up counters ⌝ }
 {
-    let counters = Counters {
-        accepted: 0,
-        sent: 0,
-    };
+    let party = resting(title, up);
     CipherParty {
         party,
         key: [0u8; 16],
@@ -234,12 +229,7 @@ fn clear_party(party: Party) -> Party
     let title = party.title;
     let phase = party.phase;
     match phase {
-        Phase::Idle => Party {
-            title,
-            up: party.up,
-            phase: Phase::Idle,
-            agreed: [0u8; 3],
-        },
+        Phase::Idle => resting(title, party.up),
         Phase::Pending => party,
         Phase::Associated => party,
     }
@@ -250,24 +240,23 @@ fn clear_cipher_party(h: CipherParty) -> CipherParty
 {
     let p = h.party;
     let phase = p.phase;
-    let party = clear_party(p);
-    let key = h.key;
     let counters = h.counters;
     match phase {
-        Phase::Idle => CipherParty {
-            party,
-            key: [0u8; 16],
-            client: [0u8; 8],
-            meter: [0u8; 8],
-            counters,
-        },
+        Phase::Idle => {
+            let title = p.title;
+            resting_cipher(title, p.up, counters)
+        }
         Phase::Pending => h,
-        Phase::Associated => CipherParty {
-            party,
-            key,
-            client: [0u8; 8],
-            meter: [0u8; 8],
-            counters,
-        },
+        Phase::Associated => {
+            let party = clear_party(p);
+            let key = h.key;
+            CipherParty {
+                party,
+                key,
+                client: [0u8; 8],
+                meter: [0u8; 8],
+                counters,
+            }
+        }
     }
 }

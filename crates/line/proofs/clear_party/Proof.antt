@@ -7,7 +7,7 @@ use Rattle.line.proofs.clear_party.Tie as tie
 
 returns : tie.Need-returns
 unfolding clearedParty
-returns c = rw (c .enum-told .given .1)
+returns c = rw (c .before .enum-told .given .1) (c .resting .ensures)
 
 returns-2 : tie.Need-returns-2
 returns-2 c = party-kept (c .before .before .before .args .party) (rw (c .enum-told2 .given .1))
@@ -16,4 +16,4 @@ returns-3 : tie.Need-returns-3
 returns-3 c = party-kept (c .before .before .before .args .party) (rw (c .enum-told3 .given .1))
 
 pub clear-party-spec : {M : Type 1} → statement M
-clear-party-spec = tie.close (tie.spec (λ c. search needs) (λ c. search needs) (λ c. search needs) returns returns-2 returns-3)
+clear-party-spec = tie.close (tie.spec (λ c. search needs) (λ c κs. search needs) (λ c. search needs) (λ c. search needs) returns returns-2 returns-3)
