@@ -13,42 +13,37 @@ use Rattle.model.specs.declared.Client.the-variants.{Verification, Ciphering}
 use Rattle.model.specs.declared.CipherClient.{CipherClient}
 use Rattle.model.specs.Limits.{longestSent, replyRoom, apduRoom, textRoom}
 use Rattle.model.specs.Periods.{listed}
+use Rattle.model.specs.Services.{offered, common}
 use Rattle.model.specs.State.{Line, Model}
-use Rattle.model.specs.Objects.{denied, actionAnswer}
 use Rattle.model.specs.Calls.{Lent, lentRefusal, Outcome, decided}
 use Rattle.model.proofs.LimitFacts.{apdu-room, text-room}
 use Rattle.model.proofs.ListLaws.{both, neither}
 use Rattle.hdlc.specs.declared.Head.{Head}
-use Rattle.hdlc.specs.declared.Frame.{Frame}
-use Rattle.hdlc.specs.declared.Frame.the-variants.{Unanswered, Rejected, LinkUp, LinkDown, Apdu}
 use Rattle.hdlc.specs.declared.FrameTest.{FrameTest}
 use Rattle.hdlc.specs.declared.FrameTest.the-variants.{EvenAddress, WrongDestination}
 use Rattle.hdlc.specs.Layout.{ui, ua, dm, frmr, byte, headOf, frameOf}
 use Rattle.hdlc.specs.Addresses.{meterAddress, addressOf}
 use Rattle.hdlc.specs.Tests.{Side, AllPass, FirstOf, none, more, fails, meterSide, clientSide, frameTests, numberOf, replyLlc}
-use Rattle.hdlc.specs.Reading.{readFrame}
 use Rattle.hdlc.specs.Replies.{replyFrame, apduFrame, frmrFrame, rejectCode}
 use Rattle.hdlc.proofs.LayoutLaws.{length-plain, length-full}
 use Rattle.hdlc.proofs.TestLaws.{all-pass, passes-in}
-use Rattle.hdlc.proofs.ReadingLaws.{Told, read-told}
 use Rattle.hdlc.proofs.RoundTrip.{ReadBack, read-back, reply-passes}
 use Rattle.cosem.specs.declared.Exception.{Exception}
-use Rattle.cosem.specs.declared.Exception.the-variants.{ServiceNotAllowed, ServiceUnknown}
-use Rattle.cosem.specs.Tags.{exceptionBytes, dedicatedTag}
+use Rattle.cosem.specs.Tags.{exceptionBytes, releaseResponse, dedicatedTag, answerTag}
 use Rattle.cosem.specs.Requests.{requested}
-use Rattle.acse.specs.Aare.{rejectedAare}
-use Rattle.acse.proofs.Layouts.{length-rejected}
-use Rattle.counters.specs.Advance.{taken}
-use Rattle.counters.specs.Window.{accepting}
-use Rattle.envelope.specs.Layout.{sealedEnvelope}
+use Rattle.acse.specs.Initiate.{initiateResponse}
+use Rattle.acse.specs.Aare.{plainAare, cipheredAareHead, rejectedAare}
+use Rattle.acse.proofs.Layouts.{length-plain as length-aare, length-head, length-rejected}
+use Rattle.acse.proofs.ServiceLaws.{length-common, length-offered}
+use Rattle.envelope.specs.Layout.{Keys, sealedEnvelope}
 use Rattle.envelope.proofs.CloseLaws.{length-envelope, envelope-size, envelope-fits}
-use Rattle.protocol.specs.Clients.{counters, selectiveIn, lentKeys}
+use Rattle.protocol.specs.Clients.{counters, selectiveIn, lentKeys, dedicatedKeys}
 use Rattle.protocol.specs.Rulings.{Ruling, decision}
-use Rattle.protocol.specs.Decide.{wrap, accepted, advanced, disproved, heard, around, seal, secretsOf, ruled, p2}
-use Rattle.protocol.specs.Outcomes.{Framed, Answers}
-use Rattle.protocol.proofs.Lengths.{length-around}
+use Rattle.protocol.specs.Decide.{acceptedPlain, acceptedCiphered, wrap, accepted, advanced, proved, disproved, around, seal, secretsOf, p2}
+use Rattle.protocol.specs.Outcomes.{apduIn, Framed, Answers}
+use Rattle.protocol.proofs.Lengths.{length-exception, length-proved}
 use Rattle.protocol.proofs.Outcomes.{FrameNumber, four, five, eight, nine, frame-number, row-lent}
-use Rattle.protocol.proofs.Ruled as by
+use Rattle.protocol.proofs.Leaves as by
 use Rattle.protocol.proofs.Turns.{turned-some, turned-fits}
 
 -- Addresses: a frame that is answered has passed the tests of refusal 4, and so its addresses are odd.
@@ -111,10 +106,6 @@ unfolding longestSent replyRoom
 framed-length d s c [] h = omega (arith, length-plain d s c)
 framed-length d s c (x ∷ xs) h = omega (arith, length-full d s c (x ∷ xs) (omega arith))
 
-length-exception : (e : Exception) → length (exceptionBytes e) ≡ 3
-length-exception ServiceNotAllowed = refl
-length-exception ServiceUnknown = refl
-
 three-fit : 3 ≤ longestSent
 unfolding longestSent
 three-fit = omega arith
@@ -141,26 +132,33 @@ module _ (f : List ℕ) (odd : Odd f) where
   framed-reject : (t : FrameTest) → Framed f (frmrFrame (headOf f) t)
   framed-reject t = framed-bare frmr (headOf f .control ∷ 0x00 ∷ rejectCode t ∷ []) three-fit (λ e. omega arith)
 
--- with an APDU, to a frame for the meter
-module _ (f : List ℕ) (odd : Odd f) (meter : byte f 3 ≡ meterAddress) where
+-- to a frame that passes every test
+module _ (f : List ℕ) (passes : AllPass meterSide f frameTests) where
+  framed-empty : (k : ℕ) → (k ≡ ui → ⊥) → Framed f (replyFrame (headOf f) k [])
+  framed-empty k other = framed-bare f (odd-all f passes) k [] (omega arith) other
+
   framed-apdu : (bs : List ℕ) → 0 < length bs → length bs ≤ apduRoom longestSent → Framed f (apduFrame (headOf f) bs)
   unfolding longestSent apduRoom
   framed-apdu bs some h =
-      framed-reply f odd ui (replyLlc ++ bs) (omega (arith, length-append replyLlc bs))
-      (λ c to e. all-pass (clientSide c) (apduFrame (headOf f) bs) frameTests (reply-passes c (headOf f) to meter bs some (omega arith)))
+      framed-reply f (odd-all f passes) ui (replyLlc ++ bs) (omega (arith, length-append replyLlc bs))
+      (λ c to e. all-pass (clientSide c) (apduFrame (headOf f) bs) frameTests (reply-passes c (headOf f) to (meter-all f passes) bs some (omega arith)))
+
+  framed-exception : (e : Exception) → Framed f (apduFrame (headOf f) (exceptionBytes e))
+  framed-exception e = let n = length-exception e in framed-apdu (exceptionBytes e) (omega arith) (omega (arith, apdu-room))
+
+  framed-sealed : (k : Keys) (title : List ℕ) (tag number : ℕ) (text : List ℕ) {size : ℕ} → length text ≡ size → size ≤ textRoom longestSent → Framed f (apduFrame (headOf f) (sealedEnvelope k title tag number text))
+  framed-sealed k title tag number text {size} e h =
+      let n = length-envelope k title tag number text in
+      framed-apdu (sealedEnvelope k title tag number text) (omega (arith, envelope-size (length text))) (omega (arith, envelope-fits (length text) (omega arith)))
 
   -- the body's answer, to V and to H
   framed-plain : (l : Line) (ak text : List ℕ) → 0 < length text → length text ≤ textRoom longestSent → Framed f (seal l (wrap ak Verification (headOf f) 0xC0) text)
-  unfolding seal
-  framed-plain l ak text some h =
-      let n = length-around l (wrap ak Verification (headOf f) 0xC0) text in
-      framed-apdu (around l (wrap ak Verification (headOf f) 0xC0) text) (omega arith) (omega (arith, apdu-room, text-room))
+  unfolding seal around
+  framed-plain l ak text some h = framed-apdu text some (omega (arith, apdu-room, text-room))
 
   framed-inside : (c : CipherClient) (l : Line) (ak text : List ℕ) (tag : ℕ) → length text ≤ textRoom longestSent → Framed f (seal l (wrap ak (Ciphering c) (headOf f) tag) text)
-  unfolding seal
-  framed-inside c l ak text tag h =
-      let n = length-around l (wrap ak (Ciphering c) (headOf f) tag) text in
-      framed-apdu (around l (wrap ak (Ciphering c) (headOf f) tag) text) (omega (arith, envelope-size (length text))) (omega (arith, envelope-fits (length text) h))
+  unfolding seal around
+  framed-inside c l ak text tag h = framed-sealed (dedicatedKeys ak c l) (l .title) (answerTag tag) (counters c l .sent) text refl h
 
 abbrev answeredNumbers : List ℕ
 answeredNumbers = 0 ∷ 8 ∷ 9 ∷ 10 ∷ 11 ∷ 12 ∷ 13 ∷ []
@@ -181,39 +179,43 @@ module _ (a : Lent) (m : Model) (title : length (m .line .title) ≡ 8) (challen
   abbrev Sends : Outcome → Type 0
   Sends o = listed (o .refusal) answeredNumbers ≡ true → Framed f (o .sent)
 
-  framed-ruled : Odd f → byte f 3 ≡ meterAddress → {r : Ruling} → by.Ruled l (secretsOf a) f r → Sends (decided p2 (decision r) m)
-  unfolding disproved
-  framed-ruled odd meter (by.unheard t h) e = absurd (unheard-number (frame-number t) h e)
-  framed-ruled odd meter by.unopened e = absurd (false≢true e)
-  framed-ruled odd meter (by.drops from o w) e = absurd (false≢true e)
-  framed-ruled odd meter (by.rejects t h) e = framed-reject f odd t
-  framed-ruled odd meter (by.noLink t n) e = framed-bare f odd dm [] (omega arith) (λ q. omega arith)
-  framed-ruled odd meter (by.departs c from) e = let n = length-rejected c in framed-apdu f odd meter (rejectedAare c) (omega arith) (omega (arith, apdu-room))
-  framed-ruled odd meter (by.excepts t x n) e = let n = length-exception x in framed-apdu f odd meter (exceptionBytes x) (omega arith) (omega (arith, apdu-room))
-  framed-ruled odd meter (by.exceptsInside t x counter n from o w) e = let n = length-exception x in framed-apdu f odd meter (exceptionBytes x) (omega arith) (omega (arith, apdu-room))
-  framed-ruled odd meter (by.disproves invoke counter {c} from o w) e =
-      let number = taken (accepting (counters c l) counter) .number in
-      let text = actionAnswer invoke (denied 250) in
-      let n = length-envelope (lentKeys (secretsOf a)) (l .title) 0xCF number text in
-      framed-apdu f odd meter (sealedEnvelope (lentKeys (secretsOf a)) (l .title) 0xCF number text) (omega (arith, envelope-size 5))
-      (omega (arith, envelope-fits 5 (omega (arith, text-room))))
-  framed-ruled odd meter (by.links after) e = framed-bare f odd ua [] (omega arith) (λ q. omega arith)
-  framed-ruled odd meter (by.tells r bs after e fits) i = rw e (framed-apdu f odd meter bs (fits title challenge .0) (fits title challenge .1))
-  framed-ruled odd meter (by.serves s q from) e =
-      let r = requested Verification (selectiveIn Verification l) s q in
-      framed-plain f odd meter l (a .ak) _ (turned-some r (m .body)) (turned-fits r (m .body))
-  framed-ruled odd meter (by.servesInside kind s q counter k {c} from o w) e =
-      framed-inside f odd meter c (advanced c (accepted c counter l)) (a .ak) _ (dedicatedTag kind) (turned-fits (requested (Ciphering c) (selectiveIn (Ciphering c) l) s q) (m .body))
+  -- an AARE with its envelope
+  framed-accepted : AllPass meterSide f frameTests → (c : CipherClient) (proposed : List ℕ) (number : ℕ)
+      → Framed f (apduFrame (headOf f) (cipheredAareHead (Ciphering c) (l .title) (a .challenge) ++ sealedEnvelope (lentKeys (secretsOf a)) (l .title) 0x28 number (initiateResponse (common proposed (offered (Ciphering c))))))
+  framed-accepted p c proposed number =
+      let agreed = common proposed (offered (Ciphering c)) in
+      let front = cipheredAareHead (Ciphering c) (l .title) (a .challenge) in
+      let response = sealedEnvelope (lentKeys (secretsOf a)) (l .title) 0x28 number (initiateResponse agreed) in
+      let whole = length-append front response in
+      let n = length-envelope (lentKeys (secretsOf a)) (l .title) 0x28 number (initiateResponse agreed) in
+      let k = length-head (Ciphering c) (l .title) title (a .challenge) agreed challenge (length-common proposed (offered (Ciphering c)) ∙ length-offered (Ciphering c)) in
+      framed-apdu f p (front ++ response) (omega arith) (omega (arith, apdu-room))
 
-  framed-passed : AllPass meterSide f frameTests → {r : Ruling} → by.Ruled l (secretsOf a) f r → Sends (decided p2 (decision r) m)
-  framed-passed p r = framed-ruled (odd-all f p) (meter-all f p) r
-
-  framed-heard : (x : Frame) → Told f x → Sends (decided p2 (decision (heard l (secretsOf a) f x)) m)
-  framed-heard (Unanswered t) told = λ e. absurd (unheard-number (frame-number t) (told .0) e)
-  framed-heard (Rejected t g) told = λ e. rw (told .2) (framed-reject f (odd-rejected f t (told .0) (told .1)) t)
-  framed-heard (LinkUp c g i) told = framed-passed (told .0 .passes) (by.rules-heard l (secretsOf a) f (LinkUp c g i) told)
-  framed-heard (LinkDown c g) told = framed-passed (told .0 .passes) (by.rules-heard l (secretsOf a) f (LinkDown c g) told)
-  framed-heard (Apdu c g start end) told = framed-passed (told .0 .passes) (by.rules-heard l (secretsOf a) f (Apdu c g start end) told)
+  framed-leaf : {r : Ruling} → by.Leaf l a r → Sends (decided p2 (decision r) m)
+  unfolding acceptedPlain acceptedCiphered proved disproved
+  framed-leaf (by.unheard t n) e = absurd (unheard-number (frame-number t) n e)
+  framed-leaf (by.rejects t n first) e = framed-reject f (odd-rejected f t n first) t
+  framed-leaf (by.noLink t from n) e = framed-empty f (from .passes) dm (λ q. omega arith)
+  framed-leaf (by.goesUp c from p) e = framed-empty f (from .passes) ua (λ q. omega arith)
+  framed-leaf (by.goesDown c from up) e = framed-empty f (from .passes) ua (λ q. omega arith)
+  framed-leaf (by.excepts t {e = x} n from up y) e = framed-exception f (from .passes) x
+  framed-leaf (by.departs c t) e = let n = length-rejected c in framed-apdu f (t .heard .passes) (rejectedAare c) (omega arith) (omega (arith, apdu-room))
+  framed-leaf (by.associatesPlain proposed t) e =
+      let agreed = common proposed (offered Verification) in
+      let n = length-aare Verification (l .title) title agreed (length-common proposed (offered Verification)) in
+      framed-apdu f (t .heard .passes) (plainAare Verification (l .title) agreed) (omega arith) (omega (arith, apdu-room))
+  framed-leaf (by.begins c client key proposed n t) e = framed-accepted (t .heard .passes) c proposed _
+  framed-leaf (by.releases c t) e = framed-apdu f (t .heard .passes) releaseResponse (omega arith) (omega (arith, apdu-room))
+  framed-leaf (by.serves q t r) e =
+      let q = requested Verification (selectiveIn Verification l) (apduIn a) q in
+      framed-plain f (t .heard .passes) l (a .ak) _ (turned-some q (m .body)) (turned-fits q (m .body))
+  framed-leaf (by.unopened t) e = absurd (false≢true e)
+  framed-leaf (by.drops c o w) e = absurd (false≢true e)
+  framed-leaf (by.exceptsInside t c {e = x} k o w y) e = framed-exception f (o .timely .heard .passes) x
+  framed-leaf (by.proves c invoke n o w) e = framed-sealed f (o .timely .heard .passes) _ _ _ _ _ (length-proved _ _ _ _ _) (omega (arith, text-room))
+  framed-leaf (by.disproves c invoke n o w) e = framed-sealed f (o .timely .heard .passes) _ _ _ _ _ refl (omega (arith, text-room))
+  framed-leaf (by.servesInside c k {n} {text} q o w r) e =
+      framed-inside f (o .timely .heard .passes) c (advanced c (accepted c n l)) (a .ak) _ (dedicatedTag k) (turned-fits (requested (Ciphering c) (selectiveIn (Ciphering c) l) text q) (m .body))
 
 -- where refusal 2 is not met, the challenge has 8 bytes
 lent-challenge : (a : Lent) → lentRefusal a ≡ 0 → length (a .challenge) ≡ 8
@@ -229,7 +231,6 @@ lent-challenge a e =
     go false false false false q h = absurd (omega arith)
 
 pub answers : Answers
-unfolding ruled
 answers a m title =
     row-lent a m (λ o. listed (o .refusal) answeredNumbers ≡ true → Framed (a .received) (o .sent)) (λ e. absurd (false≢true e)) (λ e. absurd (false≢true e)) (λ e. absurd (false≢true e))
-    (λ lent _. framed-heard a m title (lent-challenge a lent) (readFrame (a .received)) (read-told (a .received)))
+    (λ lent _. framed-leaf a m title (lent-challenge a lent) (by.leaf (m .line) a))

@@ -1,6 +1,7 @@
--- How long a reply is depends on how long the body's answer is, and on nothing else of it.
+-- How long a reply is depends on how long the body's answer is, and on nothing else of it. How long an exception and the answer
+-- to a right proof are.
 use mathlib.Core.Path.{_≡_, refl, sym, _∙_, ap}
-use mathlib.Core.List.{List, _++_}
+use mathlib.Core.List.{List, [], _∷_, _++_}
 use Prim.Native.Nat.{ℕ, _+_}
 use native.Mathlib.Omega.{arith}
 use lib.ListN.{length, length-append}
@@ -12,9 +13,15 @@ use Rattle.model.specs.Calls.{Wrap, KeepsLengths}
 use Rattle.hdlc.specs.Layout.{ui}
 use Rattle.hdlc.specs.Tests.{replyLlc}
 use Rattle.hdlc.proofs.LayoutLaws.{length-full}
+use Rattle.cosem.specs.declared.Exception.{Exception}
+use Rattle.cosem.specs.declared.Exception.the-variants.{ServiceNotAllowed, ServiceUnknown}
+use Rattle.cosem.specs.Tags.{exceptionBytes, answerTag}
+use Rattle.envelope.specs.Layout.{Keys}
+use Rattle.envelope.specs.Challenge.{proofValue}
 use Rattle.envelope.proofs.CloseLaws.{length-envelope}
+use Rattle.envelope.proofs.ProofLaws.{length-proof}
 use Rattle.protocol.specs.Clients.{counters, dedicatedKeys}
-use Rattle.cosem.specs.Tags.{answerTag}
+use Rattle.protocol.specs.Rulings.{provedText}
 use Rattle.protocol.specs.Decide.{aroundFor, around, seal, p2}
 
 -- the bytes around an answer of n bytes: none for V, an envelope for a client that ciphers
@@ -38,3 +45,15 @@ length-seal l w text =
 
 pub keeps-lengths : KeepsLengths p2
 keeps-lengths l w xs ys e = length-seal l w xs ∙ ap (λ (n : ℕ). aroundLength (w .client) n + 14) e ∙ sym (length-seal l w ys)
+
+-- What the line itself says.
+
+pub length-exception : (e : Exception) → length (exceptionBytes e) ≡ 3
+length-exception ServiceNotAllowed = refl
+length-exception ServiceUnknown = refl
+
+-- C7 01, the invoke byte, 00 01 00, and the meter's own proof
+pub length-proved : (k : Keys) (title challenge : List ℕ) (invoke number : ℕ) → length (provedText k title challenge invoke number) ≡ 25
+unfolding provedText
+length-proved k title challenge invoke number =
+    omega (arith, length-append (0xC7 ∷ 0x01 ∷ invoke ∷ 0x00 ∷ 0x01 ∷ 0x00 ∷ []) (proofValue k title challenge number), length-proof k title challenge number)

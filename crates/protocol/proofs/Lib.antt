@@ -4,7 +4,7 @@ pub mod LineLaws
 pub mod Lines
 pub mod Examples
 pub mod Claim
-pub mod Ruled
+pub mod Leaves
 pub mod Turns
 pub mod Outcomes
 pub mod Framed

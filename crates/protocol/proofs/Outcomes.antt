@@ -1,5 +1,5 @@
 -- Every frame call is one of the rows of document 01's table, and the cells follow: specs/Outcomes, proved.
-use mathlib.Core.Path.{_≡_, refl, ap, subst, _∙_}
+use mathlib.Core.Path.{_≡_, refl, subst, _∙_}
 use mathlib.Core.Bool.{Bool, true, false, cond, not, _||_, false≢true}
 use mathlib.Core.List.{List, [], _∷_}
 use Prim.Native.Nat.{ℕ, _≤_, _<_}
@@ -7,7 +7,6 @@ use native.Mathlib.Omega.{arith}
 use lib.ListN.{length}
 use lib.Dec.{eqb, ltb, leb}
 use borrow.Author.Tests.{eqb-true, leb-true}
-use Rattle.model.specs.declared.Client.{Client}
 use Rattle.model.specs.declared.CipherClient.{CipherClient}
 use Rattle.model.specs.declared.Client.the-variants.{Verification, Ciphering}
 use Rattle.model.specs.declared.CipherClient.the-variants.{Han}
@@ -21,22 +20,22 @@ use Rattle.model.specs.Calls.{Lent, lentRefusal, frame as frameCall, Outcome, r
 use Rattle.model.proofs.ListLaws.{both, every-anywhere}
 use Rattle.hdlc.specs.declared.FrameTest.{FrameTest}
 use Rattle.hdlc.specs.declared.FrameTest.the-variants.{ShortFrame, FlagMissing, FrameType, LengthMismatch, LengthEightOrNine, WrongFcs, WrongHcs, EvenAddress, FrmrReceived, OverLength, SegmentBit, PfClear, WrongDestination, WrongSource, UnknownControl, LinkDownWithInformation, ShortInformation, WrongLlc}
-use Rattle.hdlc.specs.declared.Sender.the-variants.{Known, Unknown}
-use Rattle.hdlc.specs.Layout.{frmr, byte}
-use Rattle.hdlc.specs.Addresses.{addressOf, senderOf}
+use Rattle.hdlc.specs.Layout.{frmr}
 use Rattle.hdlc.specs.Tests.{numberOf}
 use Rattle.hdlc.specs.Replies.{replyFrame}
+use Rattle.cosem.specs.declared.Tag.the-variants.{PlainRequest, GlobalAction, DedicatedRequest}
 use Rattle.cosem.specs.declared.ServiceKind.{ServiceKind}
+use Rattle.cosem.specs.declared.ServiceKind.the-variants.{Get}
 use Rattle.cosem.specs.Tags.{dedicatedTag}
 use Rattle.cosem.specs.Requests.{requested}
 use Rattle.counters.specs.Advance.{taken}
 use Rattle.counters.specs.Window.{accepting}
 use Rattle.protocol.specs.Rulings.{Ruling, decision}
 use Rattle.protocol.specs.Clients.{associates, selectiveIn}
-use Rattle.protocol.specs.Decide.{wrap, accepted, advanced, disproved, around, seal, secretsOf, ruled, decide, p2}
-use Rattle.protocol.specs.Outcomes.{outcome, headIn, SentBy, said, Enclosed, get, action, Accepted, Brings, Row, refuses, drops, overLength, badFrame, noLink, notAccepted, exception, exceptionInside, denial, denialInside, wrongProof, links, tells, grants, grantsInside, RowsHold, FrameNumbers, Silent, Unchanged, Dropping, Dropped, Excepting, plain, inside, LastAccepted, PlainUnchanged, Advanced, counters, association, DeniedBody, DeniedLine}
+use Rattle.protocol.specs.Decide.{wrap, acceptedPlain, acceptedCiphered, accepted, advanced, proved, disproved, around, seal, secretsOf, ruled, decide, p2}
+use Rattle.protocol.specs.Outcomes.{outcome, headIn, apduIn, SentBy, Timely, said, Accepted, Brings, Row, refuses, drops, overLength, badFrame, noLink, notAccepted, exception, denial, denialInside, wrongProof, links, tells, grants, grantsInside, RowsHold, FrameNumbers, Silent, Unchanged, Dropping, Dropped, Excepting, plain, inside, LastAccepted, PlainUnchanged, Advanced, counters, association, DeniedBody, DeniedLine}
 use Rattle.protocol.proofs.Claim.{p2-numbers-allowed}
-use Rattle.protocol.proofs.Ruled as by
+use Rattle.protocol.proofs.Leaves as by
 use Rattle.protocol.proofs.Turns as by-turn
 
 -- the numbers of a frame's own tests
@@ -66,20 +65,7 @@ frame-number LinkDownWithInformation = nine
 frame-number ShortInformation = nine
 frame-number WrongLlc = nine
 
--- a known sender's address is its client's
-pub sender-address : (c : Client) (n : ℕ) → senderOf n ≡ Known c → n ≡ addressOf c
-unfolding senderOf
-sender-address c n e = go (eqb n (addressOf Verification)) refl (eqb n (addressOf (Ciphering Han))) refl e
-  where
-    go : (v : Bool) → eqb n (addressOf Verification) ≡ v → (w : Bool) → eqb n (addressOf (Ciphering Han)) ≡ w → cond v (Known Verification) (cond w (Known (Ciphering Han)) Unknown) ≡ Known c → n ≡ addressOf c
-    go true p w q k = let z : Verification ≡ c = cc in eqb-true n (addressOf Verification) p ∙ ap addressOf z
-    go false p true q k = let z : Ciphering Han ≡ c = cc in eqb-true n (addressOf (Ciphering Han)) q ∙ ap addressOf z
-    go false p false q k = absurd (let z : _≡_ {A = ℕ} 0 1 = cc in omega arith)
-
 module _ (a : Lent) (m : Model) where
-  sent-by : (c : Client) → by.From c (a .received) → SentBy c a
-  sent-by c e = sender-address c (byte (a .received) 4) e
-
   row-unheard : {n : ℕ} → FrameNumber n → n < 8 → Row a m (refused n m)
   row-unheard four h = refuses 4 refl
   row-unheard five h = refuses 5 refl
@@ -93,44 +79,46 @@ module _ (a : Lent) (m : Model) where
   row-rejected nine h = badFrame
 
   -- the body's answer, to V and to H
-  row-served : (q : Request) → q .client ≡ Verification → SentBy Verification a → by-turn.Turning (m .body) (turned q (m .body))
+  row-served : (q : Request) → q .client ≡ Verification → Timely a (m .line) Verification (PlainRequest Get) → by-turn.Turning (m .body) (turned q (m .body))
       → Row a m (decided p2 (serve q (wrap (a .ak) Verification (headIn a) 0xC0) (m .line)) m)
   unfolding seal around
-  row-served q c from (by-turn.grants e) = rw e (grants q from c)
-  row-served q c from (by-turn.denies e b d) = rw (e, b) (denial from d)
+  row-served q c t (by-turn.grants e) = rw e (grants q t c)
+  row-served q c t (by-turn.denies e b d) = rw (e, b) (denial t d)
 
-  row-inside : (c : CipherClient) {k : ServiceKind} {asked : List ℕ} (q : Request) (n : ℕ) → q .client ≡ Ciphering c → Enclosed k → SentBy (Ciphering c) a → Brings a (m .line) c (dedicatedTag k) n asked → Accepted c n (m .line) → by-turn.Turning (m .body) (turned q (m .body))
+  row-inside : (c : CipherClient) (k : ServiceKind) {asked : List ℕ} (q : Request) (n : ℕ) → q .client ≡ Ciphering c → Brings a (m .line) c (DedicatedRequest k) n asked → Accepted c n (m .line) → by-turn.Turning (m .body) (turned q (m .body))
       → Row a m (decided p2 (serve q (wrap (a .ak) (Ciphering c) (headIn a) (dedicatedTag k)) (advanced c (accepted c n (m .line)))) m)
   unfolding seal around taken accepting
-  row-inside Han q n c get from o w (by-turn.grants e) = rw e (grantsInside q from get o w c)
-  row-inside Han q n c action from o w (by-turn.grants e) = rw e (grantsInside q from action o w c)
-  row-inside Han q n c get from o w (by-turn.denies e b d) = rw (e, b) (denialInside from get o w d)
-  row-inside Han q n c action from o w (by-turn.denies e b d) = rw (e, b) (denialInside from action o w d)
+  row-inside Han k q n c o w (by-turn.grants e) = rw e (grantsInside q o w c)
+  row-inside Han k q n c o w (by-turn.denies e b d) = rw (e, b) (denialInside o w d)
 
-  row-disproved : (c : CipherClient) (invoke n : ℕ) {asked : List ℕ} → SentBy (Ciphering c) a → Brings a (m .line) c 0xCB n asked → Accepted c n (m .line)
+  row-disproved : (c : CipherClient) (invoke n : ℕ) {asked : List ℕ} → Brings a (m .line) c GlobalAction n asked → Accepted c n (m .line)
       → Row a m (decided p2 (decision (disproved (m .line) (secretsOf a) c (headIn a) invoke n)) m)
   unfolding disproved taken accepting
-  row-disproved Han invoke n from o w = wrongProof invoke from o w
+  row-disproved Han invoke n o w = wrongProof invoke o w
 
-  row-ruled : {r : Ruling} → by.Ruled (m .line) (secretsOf a) (a .received) r → Row a m (decided p2 (decision r) m)
-  unfolding disproved taken accepting requested
-  row-ruled (by.unheard t h) = row-unheard (frame-number t) h
-  row-ruled by.unopened = refuses 6 refl
-  row-ruled (by.drops {c} from o w) = drops (sent-by (Ciphering c) from) o w
-  row-ruled (by.rejects t h) = row-rejected (frame-number t) h
-  row-ruled (by.noLink t e) = rw e noLink
-  row-ruled (by.departs c from) = notAccepted c (sent-by c from)
-  row-ruled (by.excepts t e n) = rw n (exception e)
-  row-ruled (by.exceptsInside t e counter {c} n from o w) = rw n (exceptionInside e (sent-by (Ciphering c) from) o w)
-  row-ruled (by.disproves invoke counter {c} from o w) = row-disproved c invoke counter (sent-by (Ciphering c) from) o w
-  row-ruled (by.links after) = links after
-  row-ruled (by.tells r bs after e f) = rw e (tells bs after)
-  row-ruled (by.serves s q from) =
-      let r = requested Verification (selectiveIn Verification (m .line)) s q in
-      row-served r refl (sent-by Verification from) (by-turn.turning r (m .body))
-  row-ruled (by.servesInside tag s q counter k {c} from o w) =
-      let r = requested (Ciphering c) (selectiveIn (Ciphering c) (m .line)) s q in
-      row-inside c r counter refl k (sent-by (Ciphering c) from) o w (by-turn.turning r (m .body))
+  row-leaf : {r : Ruling} → by.Leaf (m .line) a r → Row a m (decided p2 (decision r) m)
+  unfolding acceptedPlain acceptedCiphered proved requested
+  row-leaf (by.unheard t h) = row-unheard (frame-number t) h
+  row-leaf (by.rejects t h first) = row-rejected (frame-number t) h
+  row-leaf (by.noLink t from e) = rw e noLink
+  row-leaf (by.goesUp c from p) = links _
+  row-leaf (by.goesDown c from up) = links _
+  row-leaf (by.excepts t n from up x) = rw n (exception (plain from up x))
+  row-leaf (by.departs c t) = notAccepted c t
+  row-leaf (by.associatesPlain proposed t) = tells _ _
+  row-leaf (by.begins c client key proposed n t) = tells _ _
+  row-leaf (by.releases c t) = tells _ _
+  row-leaf (by.serves q t e) =
+      let r = requested Verification (selectiveIn Verification (m .line)) (apduIn a) q in
+      row-served r refl t (by-turn.turning r (m .body))
+  row-leaf (by.unopened t) = refuses 6 refl
+  row-leaf (by.drops c o w) = drops o w
+  row-leaf (by.exceptsInside t c n o w x) = rw n (exception (inside o w x))
+  row-leaf (by.proves c invoke n o w) = tells _ _
+  row-leaf (by.disproves c invoke n o w) = row-disproved c invoke n o w
+  row-leaf (by.servesInside c k {n} {text} q o w e) =
+      let r = requested (Ciphering c) (selectiveIn (Ciphering c) (m .line)) text q in
+      row-inside c k r n refl o w (by-turn.turning r (m .body))
 
   -- refusals 1 and 2, and then 3, come before the frame
   pub row-lent : (P : Outcome → Type 0) → P (refused 1 m) → P (refused 2 m) → P (refused 3 m) → (lentRefusal a ≡ 0 → sound m ≡ true → P (decided p2 (decision (ruled (m .line) a)) m)) → P (outcome a m)
@@ -148,7 +136,7 @@ module _ (a : Lent) (m : Model) where
       go false false false false false e k = three
 
 pub rows-hold : RowsHold
-rows-hold a m = row-lent a m (Row a m) (refuses 1 refl) (refuses 2 refl) (refuses 3 refl) (λ _ _. row-ruled a m (by.rules (m .line) a))
+rows-hold a m = row-lent a m (Row a m) (refuses 1 refl) (refuses 2 refl) (refuses 3 refl) (λ _ _. row-leaf a m (by.leaf (m .line) a))
 
 -- The cells.
 
@@ -173,71 +161,67 @@ early n e h = omega (arith, listed-most 6 n (1 ∷ 2 ∷ 3 ∷ 4 ∷ 5 ∷ 6 ∷
 module _ (a : Lent) (m : Model) where
   silent-row : {o : Outcome} → Row a m o → listed (o .refusal) (1 ∷ 2 ∷ 3 ∷ 4 ∷ 5 ∷ 6 ∷ 7 ∷ []) ≡ true → o .sent ≡ []
   silent-row (refuses n k) e = refl
-  silent-row (drops from o w) e = refl
+  silent-row (drops o w) e = refl
   silent-row overLength e = absurd (false≢true e)
   silent-row badFrame e = absurd (false≢true e)
   silent-row noLink e = absurd (false≢true e)
-  silent-row (notAccepted c from) e = absurd (false≢true e)
+  silent-row (notAccepted c t) e = absurd (false≢true e)
   silent-row (exception x) e = absurd (false≢true e)
-  silent-row (exceptionInside x from o w) e = absurd (false≢true e)
-  silent-row (denial from d) e = absurd (false≢true e)
-  silent-row (denialInside from k o w d) e = absurd (false≢true e)
-  silent-row (wrongProof invoke from o w) e = absurd (false≢true e)
+  silent-row (denial t d) e = absurd (false≢true e)
+  silent-row (denialInside o w d) e = absurd (false≢true e)
+  silent-row (wrongProof invoke o w) e = absurd (false≢true e)
   silent-row (links after) e = absurd (false≢true e)
   silent-row (tells bs after) e = absurd (false≢true e)
-  silent-row (grants q from c) e = absurd (false≢true e)
-  silent-row (grantsInside q from k o w c) e = absurd (false≢true e)
+  silent-row (grants q t c) e = absurd (false≢true e)
+  silent-row (grantsInside q o w c) e = absurd (false≢true e)
 
   unchanged-row : {o : Outcome} → Row a m o → listed (o .refusal) (1 ∷ 2 ∷ 3 ∷ 4 ∷ 5 ∷ 6 ∷ 8 ∷ 9 ∷ 10 ∷ 11 ∷ []) ≡ true → o .next ≡ m
   unchanged-row (refuses n k) e = refl
-  unchanged-row (drops from o w) e = absurd (false≢true e)
+  unchanged-row (drops o w) e = absurd (false≢true e)
   unchanged-row overLength e = refl
   unchanged-row badFrame e = refl
   unchanged-row noLink e = refl
-  unchanged-row (notAccepted c from) e = refl
-  unchanged-row (exception x) e = refl
-  unchanged-row (exceptionInside x from o w) e = absurd (false≢true e)
-  unchanged-row (denial from d) e = refl
-  unchanged-row (denialInside from k o w d) e = absurd (false≢true e)
-  unchanged-row (wrongProof invoke from o w) e = absurd (false≢true e)
+  unchanged-row (notAccepted c t) e = refl
+  unchanged-row (exception x) e = absurd (false≢true e)
+  unchanged-row (denial t d) e = refl
+  unchanged-row (denialInside o w d) e = absurd (false≢true e)
+  unchanged-row (wrongProof invoke o w) e = absurd (false≢true e)
   unchanged-row (links after) e = absurd (false≢true e)
   unchanged-row (tells bs after) e = absurd (false≢true e)
-  unchanged-row (grants q from c) e = absurd (false≢true e)
-  unchanged-row (grantsInside q from k o w c) e = absurd (false≢true e)
+  unchanged-row (grants q t c) e = absurd (false≢true e)
+  unchanged-row (grantsInside q o w c) e = absurd (false≢true e)
 
   dropped-row : {o : Outcome} → Row a m o → o .refusal ≡ 7 → Dropping a m (o .next)
   dropped-row (refuses n k) e = absurd (early n k (omega arith))
-  dropped-row (drops {c} {tag} {n} {asked} from o w) e = record { client = c; tag = tag; counter = n; text = asked; sender = from; envelope = o; outside = w; drops = refl }
+  dropped-row (drops {c} {t} {n} {asked} o w) e = record { client = c; tag = t; counter = n; text = asked; sender = o .timely .heard .sender; envelope = o; outside = w; drops = refl }
   dropped-row overLength e = absurd (omega arith)
   dropped-row badFrame e = absurd (omega arith)
   dropped-row noLink e = absurd (omega arith)
-  dropped-row (notAccepted c from) e = absurd (omega arith)
+  dropped-row (notAccepted c t) e = absurd (omega arith)
   dropped-row (exception x) e = absurd (omega arith)
-  dropped-row (exceptionInside x from o w) e = absurd (omega arith)
-  dropped-row (denial from d) e = absurd (omega arith)
-  dropped-row (denialInside from k o w d) e = absurd (omega arith)
-  dropped-row (wrongProof invoke from o w) e = absurd (omega arith)
+  dropped-row (denial t d) e = absurd (omega arith)
+  dropped-row (denialInside o w d) e = absurd (omega arith)
+  dropped-row (wrongProof invoke o w) e = absurd (omega arith)
   dropped-row (links after) e = absurd (omega arith)
   dropped-row (tells bs after) e = absurd (omega arith)
-  dropped-row (grants q from c) e = absurd (omega arith)
-  dropped-row (grantsInside q from k o w c) e = absurd (omega arith)
+  dropped-row (grants q t c) e = absurd (omega arith)
+  dropped-row (grantsInside q o w c) e = absurd (omega arith)
 
-  accepted-row : {o : Outcome} → Row a m o → o .refusal ≡ 12 → Excepting a m (o .next)
+  accepted-row : {o : Outcome} → Row a m o → o .refusal ≡ 12 → Excepting a m (o .sent) (o .next)
   accepted-row (refuses n k) e = absurd (early n k (omega arith))
-  accepted-row (drops from o w) e = absurd (omega arith)
+  accepted-row (drops o w) e = absurd (omega arith)
   accepted-row overLength e = absurd (omega arith)
   accepted-row badFrame e = absurd (omega arith)
   accepted-row noLink e = absurd (omega arith)
-  accepted-row (notAccepted c from) e = absurd (omega arith)
-  accepted-row (exception x) e = plain
-  accepted-row (exceptionInside x from o w) e = inside from o w
-  accepted-row (denial from d) e = absurd (omega arith)
-  accepted-row (denialInside from k o w d) e = absurd (omega arith)
-  accepted-row (wrongProof invoke from o w) e = absurd (omega arith)
+  accepted-row (notAccepted c t) e = absurd (omega arith)
+  accepted-row (exception x) e = x
+  accepted-row (denial t d) e = absurd (omega arith)
+  accepted-row (denialInside o w d) e = absurd (omega arith)
+  accepted-row (wrongProof invoke o w) e = absurd (omega arith)
   accepted-row (links after) e = absurd (omega arith)
   accepted-row (tells bs after) e = absurd (omega arith)
-  accepted-row (grants q from c) e = absurd (omega arith)
-  accepted-row (grantsInside q from k o w c) e = absurd (omega arith)
+  accepted-row (grants q t c) e = absurd (omega arith)
+  accepted-row (grantsInside q o w c) e = absurd (omega arith)
 
   -- a frame has one sender
   one-sender : {A : Type 0} (c : CipherClient) → SentBy Verification a → SentBy (Ciphering c) a → A
@@ -248,54 +232,53 @@ module _ (a : Lent) (m : Model) where
 
   plain-row : {o : Outcome} → Row a m o → SentBy Verification a → listed (o .refusal) (12 ∷ 13 ∷ []) ≡ true → o .next ≡ m
   plain-row (refuses n k) v e = refl
-  plain-row (drops from o w) v e = absurd (false≢true e)
+  plain-row (drops o w) v e = absurd (false≢true e)
   plain-row overLength v e = refl
   plain-row badFrame v e = refl
   plain-row noLink v e = refl
-  plain-row (notAccepted c from) v e = refl
-  plain-row (exception x) v e = refl
-  plain-row (exceptionInside x {c} from o w) v e = one-sender c v from
-  plain-row (denial from d) v e = refl
-  plain-row (denialInside {c} from k o w d) v e = one-sender c v from
-  plain-row (wrongProof invoke {c} from o w) v e = one-sender c v from
+  plain-row (notAccepted c t) v e = refl
+  plain-row (exception (plain from up x)) v e = refl
+  plain-row (exception (inside {c} o w x)) v e = one-sender c v (o .timely .heard .sender)
+  plain-row (denial t d) v e = refl
+  plain-row (denialInside {c} o w d) v e = one-sender c v (o .timely .heard .sender)
+  plain-row (wrongProof invoke {c} o w) v e = one-sender c v (o .timely .heard .sender)
   plain-row (links after) v e = absurd (false≢true e)
   plain-row (tells bs after) v e = absurd (false≢true e)
-  plain-row (grants q from c) v e = absurd (false≢true e)
-  plain-row (grantsInside q from k o w c) v e = absurd (false≢true e)
+  plain-row (grants q t c) v e = absurd (false≢true e)
+  plain-row (grantsInside q o w c) v e = absurd (false≢true e)
 
   denied-row : {o : Outcome} → Row a m o → o .refusal ≡ 13 → o .next .body ≡ m .body
   denied-row (refuses n k) e = refl
-  denied-row (drops from o w) e = refl
+  denied-row (drops o w) e = refl
   denied-row overLength e = refl
   denied-row badFrame e = refl
   denied-row noLink e = refl
-  denied-row (notAccepted c from) e = refl
-  denied-row (exception x) e = refl
-  denied-row (exceptionInside x from o w) e = refl
-  denied-row (denial from d) e = refl
-  denied-row (denialInside from k o w d) e = refl
-  denied-row (wrongProof invoke from o w) e = refl
+  denied-row (notAccepted c t) e = refl
+  denied-row (exception (plain from up x)) e = refl
+  denied-row (exception (inside o w x)) e = refl
+  denied-row (denial t d) e = refl
+  denied-row (denialInside o w d) e = refl
+  denied-row (wrongProof invoke o w) e = refl
   denied-row (links after) e = absurd (omega arith)
   denied-row (tells bs after) e = absurd (omega arith)
-  denied-row (grants q from c) e = absurd (omega arith)
-  denied-row (grantsInside q from k o w c) e = absurd (omega arith)
+  denied-row (grants q t c) e = absurd (omega arith)
+  denied-row (grantsInside q o w c) e = absurd (omega arith)
 
   advanced-row : (c : CipherClient) {o : Outcome} → Row a m o → SentBy (Ciphering c) a → o .refusal ≡ 13 → Advanced a (m .line) c (o .next .line)
   advanced-row c (refuses n k) h e = absurd (early n k (omega arith))
-  advanced-row c (drops from o w) h e = absurd (omega arith)
+  advanced-row c (drops o w) h e = absurd (omega arith)
   advanced-row c overLength h e = absurd (omega arith)
   advanced-row c badFrame h e = absurd (omega arith)
   advanced-row c noLink h e = absurd (omega arith)
-  advanced-row c (notAccepted d from) h e = absurd (omega arith)
+  advanced-row c (notAccepted d t) h e = absurd (omega arith)
   advanced-row c (exception x) h e = absurd (omega arith)
-  advanced-row c (exceptionInside x from o w) h e = absurd (omega arith)
-  advanced-row c (denial from d) h e = one-sender c from h
-  advanced-row c (denialInside {c = d} {text} {asked} {k = kind} {n} from k o w x) h e = subst (λ (y : CipherClient). Advanced a (m .line) y (advanced d (accepted d n (m .line)))) (same-sender c d h from) (counters k o w)
-  advanced-row c (wrongProof invoke {c = d} {n} from o w) h e = subst (λ (y : CipherClient). Advanced a (m .line) y (advanced d (accepted d n (associates (Ciphering d) none (m .line))))) (same-sender c d h from) (association o w)
+  advanced-row c (denial t d) h e = one-sender c (t .heard .sender) h
+  advanced-row c (denialInside {c = d} {n = n} o w x) h e = subst (λ (y : CipherClient). Advanced a (m .line) y (advanced d (accepted d n (m .line)))) (same-sender c d h (o .timely .heard .sender)) (counters o w)
+  advanced-row c (wrongProof invoke {c = d} {n} o w) h e = subst (λ (y : CipherClient). Advanced a (m .line) y (advanced d (accepted d n (associates (Ciphering d) none (m .line))))) (same-sender c d h (o .timely .heard .sender)) (association o w)
   advanced-row c (links after) h e = absurd (omega arith)
   advanced-row c (tells bs after) h e = absurd (omega arith)
-  advanced-row c (grants q from v) h e = absurd (omega arith)
-  advanced-row c (grantsInside q from k o w v) h e = absurd (omega arith)
+  advanced-row c (grants q t v) h e = absurd (omega arith)
+  advanced-row c (grantsInside q o w v) h e = absurd (omega arith)
 
 pub silent : Silent
 silent a m = silent-row a m (rows-hold a m)

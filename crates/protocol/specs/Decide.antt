@@ -3,7 +3,7 @@
 -- lent, and never the body: a request that passes every test is handed to it.
 use mathlib.Core.Path.{_≡_}
 use mathlib.Core.Bool.{Bool, true, false, cond, not, _&&_}
-use mathlib.Core.List.{List, [], _∷_, _++_}
+use mathlib.Core.List.{List, [], _++_}
 use Prim.Native.Nat.{ℕ, _+_}
 use lib.Dec.{eqb}
 use lib.ListN.{take, drop}
@@ -25,7 +25,7 @@ use Rattle.hdlc.specs.Reading.{readFrame}
 use Rattle.cosem.specs.declared.Tag.{Tag}
 use Rattle.cosem.specs.declared.Tag.the-variants.{Aarq, Rlrq, PlainRequest, GlobalAction, DedicatedRequest, Unknown}
 use Rattle.cosem.specs.declared.ServiceKind.{ServiceKind}
-use Rattle.cosem.specs.declared.ServiceKind.the-variants.{Get, Set, Action}
+use Rattle.cosem.specs.declared.ServiceKind.the-variants.{Set, Action}
 use Rattle.cosem.specs.declared.Wanted.{Wanted}
 use Rattle.cosem.specs.declared.Wanted.the-variants.{Read, ReadSelected, Invoke, InvokeWith}
 use Rattle.cosem.specs.declared.Asked.{Asked}
@@ -249,7 +249,7 @@ pub data NeverPermitted : Tag → Type 0 where
   enclosedSet : NeverPermitted (DedicatedRequest Set)
   unknown : NeverPermitted Unknown
 
--- what `byTag` says of these changes nothing. Proved in proofs/Ruled.
+-- what `byTag` says of these changes nothing. Proved in proofs/Leaves.
 abbrev pub Unreached : Type 0
 Unreached = (t : Tag) → NeverPermitted t → (l : Line) (c : Client) (h : Head) (x y : Ruling) → tested l c h t x ≡ tested l c h t y
 

@@ -1,7 +1,8 @@
 -- Document 01's table "What goes out", for frame calls: its rows, and its cells one by one, of every meter, sound or not, and
 -- whatever is lent. Of its columns these are the number, what goes out and what the meter then holds; "Met when" is what `Decide`
--- itself says, and a statement of its own for 7 alone (`Dropped`). `Answers` alone asks something of the meter: that its own title,
--- which an AARE holds, has its 8 bytes; a longer one would not fit the frame. Proved in proofs/Outcomes and proofs/Framed.
+-- itself says, and a statement of its own for 7 (`Dropped`) and for 12 (`Excepted`), of which it also tells which exception goes
+-- out. `Answers` alone asks something of the meter: that its own title, which an AARE holds, has its 8 bytes; a longer one would
+-- not fit the frame. Proved in proofs/Outcomes and proofs/Framed, by proofs/Leaves.
 use mathlib.Core.Path.{_≡_}
 use mathlib.Core.Bool.{true, false}
 use mathlib.Core.List.{List, [], _∷_}
@@ -20,20 +21,25 @@ use Rattle.model.specs.Archive.{numbers}
 use Rattle.hdlc.specs.declared.Head.{Head}
 use Rattle.hdlc.specs.Layout.{ui, frmr, byte, headOf}
 use Rattle.hdlc.specs.Addresses.{addressOf}
-use Rattle.hdlc.specs.Tests.{AllPass, frameTests, clientSide}
+use Rattle.hdlc.specs.Tests.{AllPass, frameTests, meterSide, clientSide}
 use Rattle.hdlc.specs.Replies.{replyFrame, uaFrame, dmFrame, apduFrame}
-use Rattle.cosem.specs.declared.Exception.{Exception}
+use Rattle.cosem.specs.declared.Tag.{Tag}
+use Rattle.cosem.specs.declared.Tag.the-variants.{Aarq, Rlrq, PlainRequest, GlobalAction, DedicatedRequest}
 use Rattle.cosem.specs.declared.ServiceKind.{ServiceKind}
 use Rattle.cosem.specs.declared.ServiceKind.the-variants.{Get, Action}
-use Rattle.cosem.specs.Tags.{exceptionBytes, dedicatedTag, answerTag}
+use Rattle.cosem.specs.declared.Asked.{Asked}
+use Rattle.cosem.specs.declared.Reading.the-variants.{Asks, Malformed}
+use Rattle.cosem.specs.declared.Exception.{Exception}
+use Rattle.cosem.specs.declared.Exception.the-variants.{ServiceNotAllowed, ServiceUnknown}
+use Rattle.cosem.specs.Tags.{dedicatedTag, answerTag, tagIn, isRelease, exceptionBytes}
+use Rattle.cosem.specs.Requests.{readGet, readAction, readService}
 use Rattle.acse.specs.Aare.{rejectedAare}
 use Rattle.counters.specs.Advance.{nextCounter}
 use Rattle.counters.specs.Window.{inWindow}
 use Rattle.envelope.specs.Layout.{sealedEnvelope}
 use Rattle.envelope.specs.Opening.{opens, opened}
-use Rattle.protocol.specs.declared.Secrets.{Secrets}
-use Rattle.protocol.specs.Clients.{ciphering, counters as countersOf, associates, lentKeys, dedicatedKeys}
-use Rattle.protocol.specs.Decide.{accepted, advanced, secretsOf, p2}
+use Rattle.protocol.specs.Clients.{ciphering, peer, counters as countersOf, associates, agreedIn, lentKeys, dedicatedKeys, permitted, bitAgreed, isUnknown}
+use Rattle.protocol.specs.Decide.{accepted, advanced, isChallenge, secretsOf, p2}
 
 -- what the call comes to
 abbrev pub outcome : Lent → Model → Outcome
@@ -47,25 +53,50 @@ headIn a = headOf (a .received)
 abbrev pub apduOf : List ℕ → List ℕ
 apduOf f = part 11 (length f - 3) f
 
+-- that of the received frame, and its tag
+abbrev pub apduIn : Lent → List ℕ
+apduIn a = apduOf (a .received)
+
+abbrev pub tagSent : Lent → Tag
+tagSent a = tagIn (apduIn a)
+
 -- the received frame's source is the address of this client
 abbrev pub SentBy : Client → Lent → Type 0
 SentBy c a = byte (a .received) 4 ≡ addressOf c
 
--- The rows.
+-- What a frame brings.
 
--- a number, what goes out, and the line afterwards; the body is as it was
-abbrev pub said : ℕ → List ℕ → Line → Model → Outcome
-said n bs l m = record { refusal = n; sent = bs; next = withLine l m }
+-- a frame of the client that passes every test of frames
+pub record Heard (a : Lent) (c : Client) : Type 0 where
+  pub passes : AllPass meterSide (a .received) frameTests
+  pub sender : SentBy c a
 
--- the tags of H's enclosed requests: "GET (V: C0, H: D0) and for H ACTION (D3)"
+-- an APDU with this tag, on a link that is up, where the tag is permitted and its bit agreed
+pub record Timely (a : Lent) (l : Line) (c : Client) (t : Tag) : Type 0 where
+  pub heard : Heard a c
+  pub up : peer c l .up ≡ true
+  pub tag : tagSent a ≡ t
+  pub permits : permitted c (peer c l .association) t ≡ true
+  pub agreed : bitAgreed (agreedIn (peer c l .association)) t ≡ true
+
+-- the services of H's enclosed requests: "GET (V: C0, H: D0) and for H ACTION (D3)"
 pub data Enclosed : ServiceKind → Type 0 where
   get : Enclosed Get
   action : Enclosed Action
 
--- the answer to a denied request: "result code"
-pub data Denial : List ℕ → Type 0 where
-  read : (invoke code : ℕ) → Denial (getAnswer invoke (denied code))
-  action : (invoke code : ℕ) → Denial (actionAnswer invoke (denied code))
+-- the APDU is an envelope of the client that opens, with this tag, counter and text: a proof under GUK, a request under the
+-- dedicated key
+pub data Opens (a : Lent) (l : Line) (c : CipherClient) : Tag → (counter : ℕ) → (text : List ℕ) → Type 0 where
+  underGuk : {counter : ℕ} {text : List ℕ} → opened (lentKeys (secretsOf a)) (ciphering c l .peer .title) 0xCB (apduIn a) ≡ opens counter text
+      → Opens a l c GlobalAction counter text
+  underKey : {k : ServiceKind} {counter : ℕ} {text : List ℕ} → Enclosed k
+      → opened (dedicatedKeys (a .ak) c l) (ciphering c l .peer .title) (dedicatedTag k) (apduIn a) ≡ opens counter text
+      → Opens a l c (DedicatedRequest k) counter text
+
+-- such an envelope, where its tag has passed the tests before
+pub record Brings (a : Lent) (l : Line) (c : CipherClient) (t : Tag) (counter : ℕ) (text : List ℕ) : Type 0 where
+  pub timely : Timely a l (Ciphering c) t
+  pub opening : Opens a l c t counter text
 
 -- a counter of the client that is accepted
 abbrev pub Accepted : CipherClient → ℕ → Line → Type 0
@@ -75,18 +106,43 @@ Accepted c n l = inWindow (countersOf c l .accepted) n ≡ true
 abbrev pub Outside : CipherClient → ℕ → Line → Type 0
 Outside c n l = inWindow (countersOf c l .accepted) n ≡ false
 
--- the APDU of a received frame is an envelope of the client that opens, with this tag, counter and text: a proof under GUK, a request under
--- the dedicated key
-pub data Opens (s : Secrets) (received : List ℕ) (l : Line) (c : CipherClient) : (tag counter : ℕ) → (text : List ℕ) → Type 0 where
-  underGuk : {counter : ℕ} {text : List ℕ} → opened (lentKeys s) (ciphering c l .peer .title) 0xCB (apduOf received) ≡ opens counter text
-      → Opens s received l c 0xCB counter text
-  underKey : {k : ServiceKind} {counter : ℕ} {text : List ℕ} → Enclosed k
-      → opened (dedicatedKeys (s .ak) c l) (ciphering c l .peer .title) (dedicatedTag k) (apduOf received) ≡ opens counter text
-      → Opens s received l c (dedicatedTag k) counter text
+-- Exceptions: which goes out, and when. Each test stands here with those before it passed.
 
--- that of the frame of a call
-abbrev pub Brings : Lent → Line → CipherClient → (tag counter : ℕ) → (text : List ℕ) → Type 0
-Brings a l c tag n text = Opens (secretsOf a) (a .received) l c tag n text
+pub data Excepted (a : Lent) (l : Line) (c : Client) : Exception → Type 0 where
+  -- "a tag other than 60, 62, C0, C1, C3, CB, D0, D1, D3 is refusal 12 with D8 02 02"
+  unknown : isUnknown (tagSent a) ≡ true → Excepted a l c ServiceUnknown
+  -- "a tag not permitted here, or GET or ACTION without its agreed bit, D8 01 01"
+  notPermitted : isUnknown (tagSent a) ≡ false → permitted c (peer c l .association) (tagSent a) ≡ false → Excepted a l c ServiceNotAllowed
+  notAgreed : permitted c (peer c l .association) (tagSent a) ≡ true → bitAgreed (agreedIn (peer c l .association)) (tagSent a) ≡ false
+      → Excepted a l c ServiceNotAllowed
+  -- "then a malformed APDU other than an AARQ, D8 02 02"
+  malformedRelease : Timely a l c Rlrq → isRelease (apduIn a) ≡ false → Excepted a l c ServiceUnknown
+  malformedGet : Timely a l c (PlainRequest Get) → readGet (apduIn a) ≡ Malformed → Excepted a l c ServiceUnknown
+
+-- by the text of an envelope that opened with this tag
+pub data ExceptedInside (c : CipherClient) (text : List ℕ) : Tag → Exception → Type 0 where
+  malformedProof : readAction text ≡ Malformed → ExceptedInside c text GlobalAction ServiceUnknown
+  malformedRequest : {k : ServiceKind} → readService k text ≡ Malformed → ExceptedInside c text (DedicatedRequest k) ServiceUnknown
+  -- "then, while pending, an ACTION other than the challenge's, D8 01 01"
+  notTheChallenge : (q : Asked) → readAction text ≡ Asks q → isChallenge c text q ≡ false → ExceptedInside c text GlobalAction ServiceNotAllowed
+
+-- 12: what goes out, and the meter afterwards: "an opened envelope's counter becomes the last accepted", and nothing else
+pub data Excepting (a : Lent) (m : Model) : List ℕ → Model → Type 0 where
+  plain : {c : Client} {e : Exception} → Heard a c → peer c (m .line) .up ≡ true → Excepted a (m .line) c e
+      → Excepting a m (apduFrame (headIn a) (exceptionBytes e)) m
+  inside : {c : CipherClient} {t : Tag} {n : ℕ} {text : List ℕ} {e : Exception} → Brings a (m .line) c t n text → Accepted c n (m .line) → ExceptedInside c text t e
+      → Excepting a m (apduFrame (headIn a) (exceptionBytes e)) (withLine (accepted c n (m .line)) m)
+
+-- The rows.
+
+-- a number, what goes out, and the line afterwards; the body is as it was
+abbrev pub said : ℕ → List ℕ → Line → Model → Outcome
+said n bs l m = record { refusal = n; sent = bs; next = withLine l m }
+
+-- the answer to a denied request: "result code"
+pub data Denial : List ℕ → Type 0 where
+  read : (invoke code : ℕ) → Denial (getAnswer invoke (denied code))
+  action : (invoke code : ℕ) → Denial (actionAnswer invoke (denied code))
 
 -- what goes out around an answer to V's request, and around one to H's with this tag: in an envelope, of which the meter's
 -- counter plus one is the counter
@@ -101,7 +157,7 @@ pub data Row (a : Lent) (m : Model) : Outcome → Type 0 where
   -- 1 to 6: both cells are empty
   refuses : (n : ℕ) → listed n (1 ∷ 2 ∷ 3 ∷ 4 ∷ 5 ∷ 6 ∷ []) ≡ true → Row a m (refused n m)
   -- 7: "that association is dropped", by an envelope that opened and whose counter lies outside the window
-  drops : {c : CipherClient} {tag n : ℕ} {asked : List ℕ} → SentBy (Ciphering c) a → Brings a (m .line) c tag n asked → Outside c n (m .line)
+  drops : {c : CipherClient} {t : Tag} {n : ℕ} {asked : List ℕ} → Brings a (m .line) c t n asked → Outside c n (m .line)
       → Row a m (said 7 [] (associates (Ciphering c) none (m .line)) m)
   -- 8: "FRMR, code 0100"
   overLength : Row a m (said 8 (replyFrame (headIn a) frmr (headIn a .control ∷ 0x00 ∷ 0x04 ∷ [])) (m .line) m)
@@ -110,16 +166,14 @@ pub data Row (a : Lent) (m : Model) : Outcome → Type 0 where
   -- 10: "DM"
   noLink : Row a m (said 10 (dmFrame (headIn a)) (m .line) m)
   -- 11: "AARE: result 1, diagnostic 13"
-  notAccepted : (c : Client) → SentBy c a → Row a m (said 11 (apduFrame (headIn a) (rejectedAare c)) (m .line) m)
-  -- 12: "exception"; "an opened envelope's counter becomes the last accepted"
-  exception : (e : Exception) → Row a m (said 12 (apduFrame (headIn a) (exceptionBytes e)) (m .line) m)
-  exceptionInside : (e : Exception) {c : CipherClient} {tag n : ℕ} {asked : List ℕ} → SentBy (Ciphering c) a → Brings a (m .line) c tag n asked → Accepted c n (m .line)
-      → Row a m (said 12 (apduFrame (headIn a) (exceptionBytes e)) (accepted c n (m .line)) m)
+  notAccepted : (c : Client) → Timely a (m .line) c Aarq → Row a m (said 11 (apduFrame (headIn a) (rejectedAare c)) (m .line) m)
+  -- 12: "exception"
+  exception : {bs : List ℕ} {after : Model} → Excepting a m bs after → Row a m (record { refusal = 12; sent = bs; next = after })
   -- 13: "result code"; "for H, counters advance; a wrong proof ends the association"
-  denial : {text : List ℕ} → SentBy Verification a → Denial text → Row a m (said 13 (toV a text) (m .line) m)
-  denialInside : {c : CipherClient} {text asked : List ℕ} {k : ServiceKind} {n : ℕ} → SentBy (Ciphering c) a → Enclosed k → Brings a (m .line) c (dedicatedTag k) n asked → Accepted c n (m .line) → Denial text
+  denial : {text : List ℕ} → Timely a (m .line) Verification (PlainRequest Get) → Denial text → Row a m (said 13 (toV a text) (m .line) m)
+  denialInside : {c : CipherClient} {text asked : List ℕ} {k : ServiceKind} {n : ℕ} → Brings a (m .line) c (DedicatedRequest k) n asked → Accepted c n (m .line) → Denial text
       → Row a m (said 13 (toH a (m .line) c (dedicatedTag k) text) (advanced c (accepted c n (m .line))) m)
-  wrongProof : (invoke : ℕ) {c : CipherClient} {n : ℕ} {asked : List ℕ} → SentBy (Ciphering c) a → Brings a (m .line) c 0xCB n asked → Accepted c n (m .line)
+  wrongProof : (invoke : ℕ) {c : CipherClient} {n : ℕ} {asked : List ℕ} → Brings a (m .line) c GlobalAction n asked → Accepted c n (m .line)
       → Row a m (said 13
       (apduFrame (headIn a)
       (sealedEnvelope (lentKeys (secretsOf a)) (m .line .title) 0xCF (nextCounter (countersOf c (m .line) .sent)) (actionAnswer invoke (denied 250))))
@@ -127,9 +181,9 @@ pub data Row (a : Lent) (m : Model) : Outcome → Type 0 where
   -- "an accepted frame answers 0": UA or an APDU of the line, with the line afterwards; or the body's answer to a request
   links : (after : Line) → Row a m (said 0 (uaFrame (headIn a)) after m)
   tells : (bs : List ℕ) (after : Line) → Row a m (said 0 (apduFrame (headIn a) bs) after m)
-  grants : (q : Request) → SentBy Verification a → q .client ≡ Verification
+  grants : (q : Request) → Timely a (m .line) Verification (PlainRequest Get) → q .client ≡ Verification
       → Row a m (record { refusal = 0; sent = toV a (turned q (m .body) .bytes); next = record { line = m .line; body = turned q (m .body) .body } })
-  grantsInside : {c : CipherClient} {k : ServiceKind} {n : ℕ} {asked : List ℕ} (q : Request) → SentBy (Ciphering c) a → Enclosed k → Brings a (m .line) c (dedicatedTag k) n asked → Accepted c n (m .line) → q .client ≡ Ciphering c
+  grantsInside : {c : CipherClient} {k : ServiceKind} {n : ℕ} {asked : List ℕ} (q : Request) → Brings a (m .line) c (DedicatedRequest k) n asked → Accepted c n (m .line) → q .client ≡ Ciphering c
       → Row a m (record {
         refusal = 0;
         sent = toH a (m .line) c (dedicatedTag k) (turned q (m .body) .bytes);
@@ -164,7 +218,7 @@ Unchanged = (a : Lent) (m : Model) → listed (outcome a m .refusal) keeping ≡
 -- drops an association, and its counter lay outside the window.
 pub record Dropping (a : Lent) (m after : Model) : Type 0 where
   pub client : CipherClient
-  pub tag : ℕ
+  pub tag : Tag
   pub counter : ℕ
   pub text : List ℕ
   pub sender : SentBy (Ciphering client) a
@@ -175,14 +229,9 @@ pub record Dropping (a : Lent) (m after : Model) : Type 0 where
 abbrev pub Dropped : Type 0
 Dropped = (a : Lent) (m : Model) → outcome a m .refusal ≡ 7 → Dropping a m (outcome a m .next)
 
--- 12: "an opened envelope's counter becomes the last accepted", and nothing else
-pub data Excepting (a : Lent) (m : Model) : Model → Type 0 where
-  plain : Excepting a m m
-  inside : {c : CipherClient} {tag n : ℕ} {text : List ℕ} → SentBy (Ciphering c) a → Brings a (m .line) c tag n text → Accepted c n (m .line)
-      → Excepting a m (withLine (accepted c n (m .line)) m)
-
+-- 12: which exception goes out and when, and the last accepted alone changes
 abbrev pub LastAccepted : Type 0
-LastAccepted = (a : Lent) (m : Model) → outcome a m .refusal ≡ 12 → Excepting a m (outcome a m .next)
+LastAccepted = (a : Lent) (m : Model) → outcome a m .refusal ≡ 12 → Excepting a m (outcome a m .sent) (outcome a m .next)
 
 -- 12 and 13, to V: no envelope is opened and no counter advances, so the meter is unchanged
 abbrev pub PlainUnchanged : Type 0
@@ -195,8 +244,8 @@ PlainUnchanged =
 -- 13: "for H, counters advance; a wrong proof ends the association"; the last accepted is the counter of the envelope that
 -- opened, a request's or a proof's; the body is as it was
 pub data Advanced (a : Lent) (l : Line) (c : CipherClient) : Line → Type 0 where
-  counters : {k : ServiceKind} {n : ℕ} {text : List ℕ} → Enclosed k → Brings a l c (dedicatedTag k) n text → Accepted c n l → Advanced a l c (advanced c (accepted c n l))
-  association : {n : ℕ} {text : List ℕ} → Brings a l c 0xCB n text → Accepted c n l → Advanced a l c (advanced c (accepted c n (associates (Ciphering c) none l)))
+  counters : {k : ServiceKind} {n : ℕ} {text : List ℕ} → Brings a l c (DedicatedRequest k) n text → Accepted c n l → Advanced a l c (advanced c (accepted c n l))
+  association : {n : ℕ} {text : List ℕ} → Brings a l c GlobalAction n text → Accepted c n l → Advanced a l c (advanced c (accepted c n (associates (Ciphering c) none l)))
 
 abbrev pub DeniedBody : Type 0
 DeniedBody = (a : Lent) (m : Model) → outcome a m .refusal ≡ 13 → outcome a m .next .body ≡ m .body

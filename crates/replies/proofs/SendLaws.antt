@@ -1,10 +1,10 @@
--- Laws of whole replies: sizes, an APDU that stood in its place before LLC and frame were put around it, an envelope closed
+-- Laws of whole replies: an APDU that stood in its place before LLC and frame were put around it, an envelope closed
 -- around a text that stood in its place, and one that was written there first.
-use mathlib.Core.Path.{_≡_, refl, ap, _∙_}
-use mathlib.Core.List.{List, [], _∷_, _++_}
+use mathlib.Core.Path.{_≡_, ap, _∙_}
+use mathlib.Core.List.{List, _++_}
 use Prim.Native.Nat.{ℕ, _+_, _≤_}
 use native.Mathlib.Omega.{arith}
-use lib.ListN.{length, take, drop, length-append}
+use lib.ListN.{length, take, drop}
 use Rattle.wire.specs.Reading.{part}
 use Rattle.wire.specs.Wrote.{Wrote}
 use Rattle.wire.proofs.PartLaws.{length-stretch}
@@ -15,26 +15,9 @@ use Rattle.hdlc.specs.Tests.{replyLlc}
 use Rattle.hdlc.specs.Replies.{apduFrame, dataFrame, Sent}
 use Rattle.hdlc.specs.declared.Head.{Head}
 use Rattle.hdlc_write.proofs.ReplyLaws.{apdu-framed, length-apdu}
-use Rattle.cosem.specs.Tags.{exceptionBytes}
-use Rattle.cosem.specs.declared.Exception.{Exception}
-use Rattle.cosem.specs.declared.Exception.the-variants.{ServiceNotAllowed, ServiceUnknown}
 use Rattle.material.specs.Material.{Keys}
 use Rattle.envelope.specs.Layout.{countedLength, headSize, sealedEnvelope}
-use Rattle.envelope.specs.Challenge.{proofValue}
 use Rattle.envelope.proofs.CloseLaws.{encloses, envelope-size, length-envelope}
-use Rattle.envelope.proofs.ProofLaws.{length-proof}
-use Rattle.protocol.specs.Rulings.{provedText}
-
--- Sizes.
-
-pub length-exception : (e : Exception) → length (exceptionBytes e) ≡ 3
-length-exception ServiceNotAllowed = refl
-length-exception ServiceUnknown = refl
-
-pub length-proved : (k : Keys) (title challenge : List ℕ) (invoke number : ℕ) → length (provedText k title challenge invoke number) ≡ 25
-unfolding provedText
-length-proved k title challenge invoke number =
-    omega (arith, length-append (0xC7 ∷ 0x01 ∷ invoke ∷ 0x00 ∷ 0x01 ∷ 0x00 ∷ []) (proofValue k title challenge number), length-proof k title challenge number)
 
 -- the head of an envelope takes seven to nine bytes
 pub head-limits : (n : ℕ) → (7 ≤ headSize n) × (headSize n ≤ 9)

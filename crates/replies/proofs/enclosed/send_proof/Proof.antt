@@ -7,7 +7,8 @@ use Rattle.model.proofs.LimitFacts.{reply-room, text-room}
 use Rattle.wire_write.proofs.WroteLaws.{then}
 use Rattle.protocol.specs.Rulings.{provedText}
 use Rattle.material.specs.Material.{keysOf}
-use Rattle.replies.proofs.SendLaws.{enclosed, head-limits, length-proved}
+use Rattle.protocol.proofs.Lengths.{length-proved}
+use Rattle.replies.proofs.SendLaws.{enclosed, head-limits}
 use Rattle.replies.proofs.enclosed.send_proof.Statement.{statement}
 use Rattle.replies.proofs.enclosed.send_proof.Tie as tie
 

@@ -2,7 +2,7 @@
 use borrow.Author.Needs.{needs}
 use Rattle.model.proofs.LimitFacts.{reply-room}
 use Rattle.hdlc_write.proofs.ReplyLaws.{apdu-framed}
-use Rattle.replies.proofs.SendLaws.{length-exception}
+use Rattle.protocol.proofs.Lengths.{length-exception}
 use Rattle.replies.proofs.plain.send_exception.Statement.{statement}
 use Rattle.replies.proofs.plain.send_exception.Tie as tie
 

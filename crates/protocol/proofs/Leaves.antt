@@ -1,0 +1,242 @@
+-- What a frame comes to on a line: one walk through the rulings, from `heard` to its leaves, with what is known at each. The
+-- statements about all frames go by cases of `Leaf`: a sound line stays sound (proofs/Lines), the rows of document 01's table
+-- (proofs/Outcomes), what goes out is a frame (proofs/Framed). A branch more in specs/Decide is one leaf here and one clause in
+-- each of them. The rows of specs/Outcomes are a data type of their own, since they speak of whole calls, in the table's words.
+use mathlib.Core.Path.{_≡_, refl, ap, _∙_}
+use mathlib.Core.Bool.{Bool, true, false, cond, not, _&&_, false≢true, and-false}
+use mathlib.Core.List.{List}
+use Prim.Native.Nat.{ℕ, _-_, _≤_, _<_}
+use native.Mathlib.Omega.{arith}
+use lib.Dec.{eqb}
+use lib.ListN.{take, drop, length}
+use borrow.Author.Tests.{eqb-true, not-true, not-false}
+use Rattle.model.specs.declared.Client.{Client}
+use Rattle.model.specs.declared.CipherClient.{CipherClient}
+use Rattle.model.specs.declared.Client.the-variants.{Verification, Ciphering}
+use Rattle.model.specs.declared.CipherClient.the-variants.{Han}
+use Rattle.model.specs.State.{none, Line}
+use Rattle.model.specs.Calls.{Lent}
+use Rattle.model.proofs.ListLaws.{both, by-test}
+use Rattle.hdlc.specs.declared.Head.{Head}
+use Rattle.hdlc.specs.declared.Frame.{Frame}
+use Rattle.hdlc.specs.declared.Frame.the-variants.{Unanswered, Rejected, LinkUp, LinkDown, Apdu}
+use Rattle.hdlc.specs.declared.FrameTest.{FrameTest}
+use Rattle.hdlc.specs.declared.Sender.the-variants.{Known, Unknown as Unnamed}
+use Rattle.hdlc.specs.Layout.{byte}
+use Rattle.hdlc.specs.Addresses.{addressOf, senderOf}
+use Rattle.hdlc.specs.Tests.{FirstOf, meterSide, frameTests, numberOf}
+use Rattle.hdlc.specs.Reading.{readFrame}
+use Rattle.hdlc.proofs.ReadingLaws.{Accepted as AcceptedFrame, Told, read-told}
+use Rattle.cosem.specs.declared.Tag.{Tag}
+use Rattle.cosem.specs.declared.Tag.the-variants.{Aarq, Rlrq, PlainRequest, GlobalAction, DedicatedRequest, Unknown}
+use Rattle.cosem.specs.declared.ServiceKind.{ServiceKind}
+use Rattle.cosem.specs.declared.ServiceKind.the-variants.{Get, Set, Action}
+use Rattle.cosem.specs.declared.Asked.{Asked}
+use Rattle.cosem.specs.declared.Exception.{Exception}
+use Rattle.cosem.specs.declared.Reading.{Reading}
+use Rattle.cosem.specs.declared.Reading.the-variants.{Asks, Malformed}
+use Rattle.cosem.specs.Tags.{dedicatedTag, isRelease, releaseResponse, exceptionBytes}
+use Rattle.cosem.specs.Requests.{readGet, readAction, readService, requested}
+use Rattle.acse.specs.declared.Aarq.{Aarq as ReadAarq}
+use Rattle.acse.specs.declared.Aarq.the-variants.{Plain, Ciphered, Departs}
+use Rattle.acse.specs.declared.InitiateRequest.{InitiateRequest}
+use Rattle.acse.specs.declared.InitiateRequest.the-variants.{Accepted as AcceptedRequest, Departs as RequestDeparts}
+use Rattle.acse.specs.Initiate.{readRequest}
+use Rattle.acse.specs.Aarq.{readAarq}
+use Rattle.counters.specs.Window.{inWindow}
+use Rattle.envelope.specs.Opening.{Opened, fails, opens, opened}
+use Rattle.protocol.specs.declared.Secrets.{Secrets}
+use Rattle.protocol.specs.Clients.{ciphering, peer, withPeer, linked, associates, counters, held, agreedIn, selectiveIn, lentKeys, dedicatedKeys, isPending, isAssociated, permitted, bitAgreed, isUnknown}
+use Rattle.protocol.specs.Rulings.{Test, none as noTest, frame, linkUpWithInformation, p5HoldsV, linkDownWhileDown, dataWhileDown, unknownTag, tagNotPermitted, bitNotAgreed, envelopeUnopened, outsideWindow, malformedApdu, notTheChallenge, refusalOf, nothing, ua, dm, reject, apdu, Ruling, says, asks, refusedAarq}
+use Rattle.protocol.specs.Decide.{heldByP5, linkUp, linkDown, acceptedPlain, acceptedCiphered, initiated, enclosed, associating, released, wrap, asked, accepted, advanced, askedInside, isChallenge, provesItself, proved, disproved, challenged, answeredChallenge, admitted, challengeEnclosed, requestEnclosed, byTag, conversed, set, plainAction, enclosedSet, unknown, Unreached, carried, heard, secretsOf, ruled}
+use Rattle.protocol.specs.Outcomes.{headIn, apduIn, tagSent, Heard, Timely, Enclosed, get, action, Opens, underGuk, underKey, Brings, Accepted, Outside, Excepted, ExceptedInside, malformedProof, malformedRequest}
+use Rattle.protocol.specs.Outcomes as out
+
+pub data Leaf (l : Line) (a : Lent) : Ruling → Type 0 where
+  -- 4, 5; and 8, 9
+  unheard : (t : FrameTest) → numberOf t < 8 → Leaf l a (says (frame t) nothing l)
+  rejects : (t : FrameTest) → 8 ≤ numberOf t → FirstOf meterSide frameTests (a .received) t → Leaf l a (says (frame t) (reject (headIn a) t) l)
+  -- 10
+  noLink : (t : Test) {c : Client} → Heard a c → refusalOf t ≡ 10 → Leaf l a (says t (dm (headIn a)) l)
+  -- links
+  goesUp : (c : Client) → Heard a c → heldByP5 c l ≡ false → Leaf l a (says noTest (ua (headIn a)) (withPeer c (linked true (peer c l)) l))
+  goesDown : (c : Client) → Heard a c → peer c l .up ≡ true → Leaf l a (says noTest (ua (headIn a)) (withPeer c (linked false (peer c l)) l))
+  -- 12, outside an envelope
+  excepts : (t : Test) {c : Client} {e : Exception} → refusalOf t ≡ 12 → Heard a c → peer c l .up ≡ true → Excepted a l c e
+      → Leaf l a (says t (apdu (headIn a) (exceptionBytes e)) l)
+  -- an AARQ: 11, or an association; and its end
+  departs : (c : Client) → Timely a l c Aarq → Leaf l a (refusedAarq c (headIn a) l)
+  associatesPlain : (proposed : List ℕ) → Timely a l Verification Aarq → Leaf l a (acceptedPlain l (headIn a) proposed)
+  begins : (c : CipherClient) (client key proposed : List ℕ) (n : ℕ) → Timely a l (Ciphering c) Aarq
+      → Leaf l a (acceptedCiphered l (secretsOf a) c (headIn a) client key proposed n)
+  releases : (c : Client) → Timely a l c Rlrq → Leaf l a (says noTest (apdu (headIn a) releaseResponse) (associates c none l))
+  -- the body is asked
+  serves : (q : Asked) → Timely a l Verification (PlainRequest Get) → readGet (apduIn a) ≡ Asks q
+      → Leaf l a (asks (requested Verification (selectiveIn Verification l) (apduIn a) q) (wrap (a .ak) Verification (headIn a) 0xC0) l)
+  -- Envelopes of a client that ciphers: 6, and 7
+  unopened : {c : CipherClient} {t : Tag} → Timely a l (Ciphering c) t → Leaf l a (says envelopeUnopened nothing l)
+  drops : (c : CipherClient) {t : Tag} {n : ℕ} {text : List ℕ} → Brings a l c t n text → Outside c n l
+      → Leaf l a (says outsideWindow nothing (associates (Ciphering c) none l))
+  -- 12, inside one
+  exceptsInside : (x : Test) (c : CipherClient) {t : Tag} {n : ℕ} {text : List ℕ} {e : Exception} → refusalOf x ≡ 12 → Brings a l c t n text → Accepted c n l → ExceptedInside c text t e
+      → Leaf l a (says x (apdu (headIn a) (exceptionBytes e)) (accepted c n l))
+  -- a proof: right, or 13
+  proves : (c : CipherClient) (invoke n : ℕ) {text : List ℕ} → Brings a l c GlobalAction n text → Accepted c n l → Leaf l a (proved l (secretsOf a) c (headIn a) invoke n)
+  disproves : (c : CipherClient) (invoke n : ℕ) {text : List ℕ} → Brings a l c GlobalAction n text → Accepted c n l → Leaf l a (disproved l (secretsOf a) c (headIn a) invoke n)
+  -- the body is asked
+  servesInside : (c : CipherClient) (k : ServiceKind) {n : ℕ} {text : List ℕ} (q : Asked) → Brings a l c (DedicatedRequest k) n text → Accepted c n l → readService k text ≡ Asks q
+      → Leaf l a (asks (requested (Ciphering c) (selectiveIn (Ciphering c) l) text q) (wrap (a .ak) (Ciphering c) (headIn a) (dedicatedTag k)) (advanced c (accepted c n l)))
+
+module _ (l : Line) (a : Lent) where
+  abbrev Is : Ruling → Type 0
+  Is r = Leaf l a r
+
+  abbrev h : Head
+  h = headIn a
+
+  abbrev lent : Secrets
+  lent = secretsOf a
+
+  -- Links.
+
+  leaf-up : (c : Client) → Heard a c → (i : Bool) → Is (linkUp l c h i)
+  unfolding linkUp
+  leaf-up c from i =
+      by-test Is i (λ _. noLink linkUpWithInformation from refl) λ _.
+      by-test Is (heldByP5 c l) (λ _. noLink p5HoldsV from refl) (goesUp c from)
+
+  leaf-down : (c : Client) → Heard a c → Is (linkDown l c h)
+  unfolding linkDown
+  leaf-down c from = by-test Is (peer c l .up) (goesDown c from) (λ _. noLink linkDownWhileDown from refl)
+
+  -- Plain APDUs.
+
+  leaf-released : (c : Client) → Timely a l c Rlrq → Is (released l c h (apduIn a))
+  unfolding released
+  leaf-released c t = by-test Is (isRelease (apduIn a)) (λ _. releases c t) (λ e. excepts malformedApdu refl (t .heard) (t .up) (out.malformedRelease t e))
+
+  leaf-asked : Timely a l Verification (PlainRequest Get) → (r : Reading) → readGet (apduIn a) ≡ r → Is (asked l lent Verification h (apduIn a) r)
+  leaf-asked t Malformed e = excepts malformedApdu refl (t .heard) (t .up) (out.malformedGet t e)
+  leaf-asked t (Asks q) e = serves q t e
+
+  -- Envelopes of a client that ciphers.
+
+  module _ (c : CipherClient) where
+    leaf-initiated : Timely a l (Ciphering c) Aarq → (client text : List ℕ) (n : ℕ) (r : InitiateRequest) → Is (initiated l lent c h client text n r)
+    leaf-initiated t client text n (AcceptedRequest key services) = begins c client (take 16 (drop key text)) (take 3 (drop services text)) n t
+    leaf-initiated t client text n RequestDeparts = departs (Ciphering c) t
+
+    leaf-enclosed : Timely a l (Ciphering c) Aarq → (client : List ℕ) (o : Opened) → Is (enclosed l lent c h client o)
+    leaf-enclosed t client fails = departs (Ciphering c) t
+    leaf-enclosed t client (opens n text) = leaf-initiated t client text n (readRequest text)
+
+    -- by what the envelope opens to, and its counter
+    leaf-admitted : {tag : Tag} → Timely a l (Ciphering c) tag → (o : Opened) (g : ℕ → List ℕ → Ruling) → ((n : ℕ) (text : List ℕ) → o ≡ opens n text → Opens a l c tag n text)
+        → ((n : ℕ) (text : List ℕ) → Brings a l c tag n text → Accepted c n l → Is (g n text)) → Is (admitted l c o g)
+    leaf-admitted t fails g b k = unopened t
+    leaf-admitted {tag} t (opens n text) g b k =
+        let o : Brings a l c tag n text = record { timely = t; opening = b n text refl } in
+        by-test Is (inWindow (counters c l .accepted) n) (k n text o) (drops c o)
+
+    leaf-inside : (k : ServiceKind) (n : ℕ) (text : List ℕ) → Brings a l c (DedicatedRequest k) n text → Accepted c n l → (r : Reading) → readService k text ≡ r → Is (askedInside l lent c h k n text r)
+    leaf-inside k n text o w Malformed e = exceptsInside malformedApdu c refl o w (malformedRequest e)
+    leaf-inside k n text o w (Asks q) e = servesInside c k q o w e
+
+    leaf-request : (k : ServiceKind) → Enclosed k → Timely a l (Ciphering c) (DedicatedRequest k) → Is (requestEnclosed l lent c h k (apduIn a))
+    unfolding requestEnclosed
+    leaf-request k i t =
+        leaf-admitted t (opened (dedicatedKeys (a .ak) c l) (ciphering c l .peer .title) (dedicatedTag k) (apduIn a)) _ (λ n text e. underKey i e)
+        (λ n text o w. leaf-inside k n text o w (readService k text) refl)
+
+    leaf-challenged : (n : ℕ) (text : List ℕ) (q : Asked) → readAction text ≡ Asks q → Brings a l c GlobalAction n text → Accepted c n l → Is (challenged l lent c h n text q)
+    unfolding challenged
+    leaf-challenged n text q e o w =
+        by-test Is (not (isChallenge c text q)) (λ i. exceptsInside notTheChallenge c refl o w (out.notTheChallenge q e (not-true _ i))) λ _.
+        by-test Is (provesItself l lent c n text q) (λ _. proves c (q .invoke) n o w) (λ _. disproves c (q .invoke) n o w)
+
+    leaf-answered : (n : ℕ) (text : List ℕ) → Brings a l c GlobalAction n text → Accepted c n l → (r : Reading) → readAction text ≡ r → Is (answeredChallenge l lent c h n text r)
+    leaf-answered n text o w Malformed e = exceptsInside malformedApdu c refl o w (malformedProof e)
+    leaf-answered n text o w (Asks q) e = leaf-challenged n text q e o w
+
+    leaf-challenge : Timely a l (Ciphering c) GlobalAction → Is (challengeEnclosed l lent c h (apduIn a))
+    unfolding challengeEnclosed
+    leaf-challenge t =
+        leaf-admitted t (opened (lentKeys lent) (ciphering c l .peer .title) 0xCB (apduIn a)) _ (λ n text e. underGuk e)
+        (λ n text o w. leaf-answered n text o w (readAction text) refl)
+
+  leaf-associating : (c : Client) → Timely a l c Aarq → (r : ReadAarq) → Is (associating l lent c h (apduIn a) r)
+  leaf-associating Verification t (Plain p) = associatesPlain (take 3 (drop p (apduIn a))) t
+  leaf-associating (Ciphering c) t (Plain p) = departs (Ciphering c) t
+  leaf-associating (Ciphering c) t (Ciphered d e) =
+      leaf-enclosed c t (take 8 (drop d (apduIn a))) (opened (lentKeys lent) (ciphering c l .peer .title) 0x21 (drop e (apduIn a)))
+  leaf-associating Verification t (Ciphered d e) = departs Verification t
+  leaf-associating c t Departs = departs c t
+
+  -- By the tag. What is never permitted has no leaf.
+
+  never : {A : Type 0} (b : Bool) → b && false ≡ true → A
+  never b e = absurd (false≢true (both b false e .1))
+
+  leaf-tag : (c : Client) (t : Tag) → Timely a l c t → Is (byTag l lent c h (apduIn a) t)
+  leaf-tag c Aarq t = leaf-associating c t (readAarq (apduIn a) c (peer c l .title))
+  leaf-tag c Rlrq t = leaf-released c t
+  leaf-tag Verification (PlainRequest Get) t = leaf-asked t (readGet (apduIn a)) refl
+  leaf-tag (Ciphering c) (PlainRequest Get) t = never (isAssociated (held c l)) (t .permits)
+  leaf-tag c (PlainRequest Set) t = never (isAssociated (peer c l .association)) (t .permits)
+  leaf-tag c (PlainRequest Action) t = never (isAssociated (peer c l .association)) (t .permits)
+  leaf-tag Verification GlobalAction t = never (isPending (l .verification .association)) (t .permits)
+  leaf-tag (Ciphering c) GlobalAction t = leaf-challenge c t
+  leaf-tag Verification (DedicatedRequest Get) t = never (isAssociated (l .verification .association)) (t .permits)
+  leaf-tag (Ciphering c) (DedicatedRequest Get) t = leaf-request c Get get t
+  leaf-tag c (DedicatedRequest Set) t = never (isAssociated (peer c l .association)) (t .permits)
+  leaf-tag Verification (DedicatedRequest Action) t = never (isAssociated (l .verification .association)) (t .permits)
+  leaf-tag (Ciphering c) (DedicatedRequest Action) t = leaf-request c Action action t
+  leaf-tag c Unknown t = absurd (false≢true (t .permits))
+
+  leaf-conversed : (c : Client) → Heard a c → peer c l .up ≡ true → Is (conversed l lent c h (apduIn a) (tagSent a))
+  unfolding conversed
+  leaf-conversed c from up =
+      by-test Is (isUnknown (tagSent a)) (λ e. excepts unknownTag refl from up (out.unknown e)) λ u.
+      by-test Is (not (permitted c (peer c l .association) (tagSent a))) (λ p. excepts tagNotPermitted refl from up (out.notPermitted u (not-true _ p))) λ p.
+      by-test Is (not (bitAgreed (agreedIn (peer c l .association)) (tagSent a))) (λ b. excepts bitNotAgreed refl from up (out.notAgreed (not-false _ p) (not-true _ b))) λ b.
+      leaf-tag c (tagSent a) (record { heard = from; up = up; tag = refl; permits = not-false _ p; agreed = not-false _ b })
+
+  -- By the frame.
+
+  leaf-carried : (c : Client) → Heard a c → Is (carried l lent c h (apduIn a))
+  unfolding carried
+  leaf-carried c from = by-test Is (peer c l .up) (leaf-conversed c from) (λ _. noLink dataWhileDown from refl)
+
+  -- a known sender's address is its client's
+  sender-address : (c : Client) (n : ℕ) → senderOf n ≡ Known c → n ≡ addressOf c
+  unfolding senderOf
+  sender-address c n e = go (eqb n (addressOf Verification)) refl (eqb n (addressOf (Ciphering Han))) refl e
+    where
+      go : (v : Bool) → eqb n (addressOf Verification) ≡ v → (w : Bool) → eqb n (addressOf (Ciphering Han)) ≡ w → cond v (Known Verification) (cond w (Known (Ciphering Han)) Unnamed) ≡ Known c → n ≡ addressOf c
+      go true p w q k = let z : Verification ≡ c = cc in eqb-true n (addressOf Verification) p ∙ ap addressOf z
+      go false p true q k = let z : Ciphering Han ≡ c = cc in eqb-true n (addressOf (Ciphering Han)) q ∙ ap addressOf z
+      go false p false q k = absurd (let z : _≡_ {A = ℕ} 0 1 = cc in omega arith)
+
+  from-client : (c : Client) {control : ℕ} → AcceptedFrame c control (a .received) → Heard a c
+  from-client c f = record { passes = f .passes; sender = sender-address c (byte (a .received) 4) (f .source) }
+
+  leaf-heard : (x : Frame) → Told (a .received) x → Is (heard l lent (a .received) x)
+  leaf-heard (Unanswered t) told = unheard t (told .0)
+  leaf-heard (Rejected t g) told = rw (told .2) (rejects t (told .0) (told .1))
+  leaf-heard (LinkUp c g i) told = rw (told .1) (leaf-up c (from-client c (told .0)) i)
+  leaf-heard (LinkDown c g) told = rw (told .1) (leaf-down c (from-client c (told .0)))
+  leaf-heard (Apdu c g start end) told =
+      let last : end ≡ length (a .received) - 3 = omega (arith, told .2 .last) in
+      rw (told .1, told .2 .first, last) (leaf-carried c (from-client c (told .0)))
+
+-- what a frame comes to, whatever the line
+pub leaf : (l : Line) (a : Lent) → Leaf l a (ruled l a)
+unfolding ruled
+leaf l a = leaf-heard l a (readFrame (a .received)) (read-told (a .received))
+
+-- four tags are refused before `byTag` is asked
+pub unreached : Unreached
+unreached (PlainRequest Set) set l c h x y = rw (and-false (isAssociated (peer c l .association))) refl
+unreached (PlainRequest Action) plainAction l c h x y = rw (and-false (isAssociated (peer c l .association))) refl
+unreached (DedicatedRequest Set) enclosedSet l c h x y = rw (and-false (isAssociated (peer c l .association))) refl
+unreached Unknown unknown l c h x y = refl
