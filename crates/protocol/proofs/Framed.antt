@@ -42,7 +42,8 @@ use Rattle.protocol.specs.Rulings.{Ruling, decision}
 use Rattle.protocol.specs.Decide.{acceptedPlain, acceptedCiphered, wrap, accepted, advanced, proved, disproved, around, seal, secretsOf, p2}
 use Rattle.protocol.specs.Outcomes.{apduIn, Framed, Answers}
 use Rattle.protocol.proofs.Lengths.{length-exception, length-proved}
-use Rattle.protocol.proofs.Outcomes.{FrameNumber, four, five, eight, nine, frame-number, row-lent}
+use Rattle.protocol.proofs.Numbers.{FrameNumber, four, five, eight, nine, frame-number}
+use Rattle.protocol.proofs.Outcomes.{row-lent}
 use Rattle.protocol.proofs.Leaves as by
 use Rattle.protocol.proofs.Turns.{turned-some, turned-fits}
 

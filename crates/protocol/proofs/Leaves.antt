@@ -57,13 +57,13 @@ pub data Leaf (l : Line) (a : Lent) : Ruling → Type 0 where
   unheard : (t : FrameTest) → numberOf t < 8 → Leaf l a (says (frame t) nothing l)
   rejects : (t : FrameTest) → 8 ≤ numberOf t → FirstOf meterSide frameTests (a .received) t → Leaf l a (says (frame t) (reject (headIn a) t) l)
   -- 10
-  noLink : (t : Test) {c : Client} → Heard a c → refusalOf t ≡ 10 → Leaf l a (says t (dm (headIn a)) l)
+  noLink : (x : Test) {c : Client} → Heard a c → refusalOf x ≡ 10 → Leaf l a (says x (dm (headIn a)) l)
   -- links
   goesUp : (c : Client) → Heard a c → heldByP5 c l ≡ false → Leaf l a (says noTest (ua (headIn a)) (withPeer c (linked true (peer c l)) l))
   goesDown : (c : Client) → Heard a c → peer c l .up ≡ true → Leaf l a (says noTest (ua (headIn a)) (withPeer c (linked false (peer c l)) l))
   -- 12, outside an envelope
-  excepts : (t : Test) {c : Client} {e : Exception} → refusalOf t ≡ 12 → Heard a c → peer c l .up ≡ true → Excepted a l c e
-      → Leaf l a (says t (apdu (headIn a) (exceptionBytes e)) l)
+  excepts : (x : Test) {c : Client} {e : Exception} → refusalOf x ≡ 12 → Heard a c → peer c l .up ≡ true → Excepted a l c e
+      → Leaf l a (says x (apdu (headIn a) (exceptionBytes e)) l)
   -- an AARQ: 11, or an association; and its end
   departs : (c : Client) → Timely a l c Aarq → Leaf l a (refusedAarq c (headIn a) l)
   associatesPlain : (proposed : List ℕ) → Timely a l Verification Aarq → Leaf l a (acceptedPlain l (headIn a) proposed)
@@ -73,7 +73,7 @@ pub data Leaf (l : Line) (a : Lent) : Ruling → Type 0 where
   -- the body is asked
   serves : (q : Asked) → Timely a l Verification (PlainRequest Get) → readGet (apduIn a) ≡ Asks q
       → Leaf l a (asks (requested Verification (selectiveIn Verification l) (apduIn a) q) (wrap (a .ak) Verification (headIn a) 0xC0) l)
-  -- Envelopes of a client that ciphers: 6, and 7
+  -- envelopes of a client that ciphers: 6, and 7
   unopened : {c : CipherClient} {t : Tag} → Timely a l (Ciphering c) t → Leaf l a (says envelopeUnopened nothing l)
   drops : (c : CipherClient) {t : Tag} {n : ℕ} {text : List ℕ} → Brings a l c t n text → Outside c n l
       → Leaf l a (says outsideWindow nothing (associates (Ciphering c) none l))

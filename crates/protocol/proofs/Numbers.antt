@@ -1,6 +1,7 @@
 -- The numbers of the protocol's answers are those of document 01's table.
 use mathlib.Core.Path.{_≡_, refl}
 use mathlib.Core.Bool.{true}
+use Prim.Native.Nat.{ℕ}
 use Rattle.model.specs.Periods.{listed}
 use Rattle.model.specs.Archive.{frameNumbers, saidNumber, KnownNumbers}
 use Rattle.hdlc.specs.declared.FrameTest.{FrameTest}
@@ -9,29 +10,42 @@ use Rattle.hdlc.specs.Tests.{numberOf}
 use Rattle.protocol.specs.Rulings.{Test, none, frame, linkUpWithInformation, p5HoldsV, linkDownWhileDown, dataWhileDown, unknownTag, tagNotPermitted, bitNotAgreed, aarqNotAccepted, envelopeUnopened, outsideWindow, malformedApdu, notTheChallenge, wrongProof, refusalOf, Ruling, says, asks, decision}
 use Rattle.protocol.specs.Decide.{ruled, decide, p2}
 
-frame-number : (t : FrameTest) → listed (numberOf t) frameNumbers ≡ true
-frame-number ShortFrame = refl
-frame-number FlagMissing = refl
-frame-number FrameType = refl
-frame-number LengthMismatch = refl
-frame-number LengthEightOrNine = refl
-frame-number WrongFcs = refl
-frame-number WrongHcs = refl
-frame-number EvenAddress = refl
-frame-number FrmrReceived = refl
-frame-number OverLength = refl
-frame-number SegmentBit = refl
-frame-number PfClear = refl
-frame-number WrongDestination = refl
-frame-number WrongSource = refl
-frame-number UnknownControl = refl
-frame-number LinkDownWithInformation = refl
-frame-number ShortInformation = refl
-frame-number WrongLlc = refl
+-- the numbers of a frame's own tests
+pub data FrameNumber : ℕ → Type 0 where
+  four : FrameNumber 4
+  five : FrameNumber 5
+  eight : FrameNumber 8
+  nine : FrameNumber 9
+
+pub frame-number : (t : FrameTest) → FrameNumber (numberOf t)
+frame-number ShortFrame = four
+frame-number FlagMissing = four
+frame-number FrameType = four
+frame-number LengthMismatch = four
+frame-number LengthEightOrNine = four
+frame-number WrongFcs = four
+frame-number WrongHcs = four
+frame-number EvenAddress = four
+frame-number FrmrReceived = five
+frame-number OverLength = eight
+frame-number SegmentBit = nine
+frame-number PfClear = nine
+frame-number WrongDestination = nine
+frame-number WrongSource = nine
+frame-number UnknownControl = nine
+frame-number LinkDownWithInformation = nine
+frame-number ShortInformation = nine
+frame-number WrongLlc = nine
+
+frame-listed : {n : ℕ} → FrameNumber n → listed n frameNumbers ≡ true
+frame-listed four = refl
+frame-listed five = refl
+frame-listed eight = refl
+frame-listed nine = refl
 
 test-number : (t : Test) → listed (refusalOf t) frameNumbers ≡ true
 test-number none = refl
-test-number (frame t) = frame-number t
+test-number (frame t) = frame-listed (frame-number t)
 test-number linkUpWithInformation = refl
 test-number p5HoldsV = refl
 test-number linkDownWhileDown = refl

@@ -18,10 +18,7 @@ use Rattle.model.specs.Soundness.{sound}
 use Rattle.model.specs.Objects.{Request, turned}
 use Rattle.model.specs.Calls.{Lent, lentRefusal, frame as frameCall, Outcome, refused, serve, decided, act, step}
 use Rattle.model.proofs.ListLaws.{both, every-anywhere}
-use Rattle.hdlc.specs.declared.FrameTest.{FrameTest}
-use Rattle.hdlc.specs.declared.FrameTest.the-variants.{ShortFrame, FlagMissing, FrameType, LengthMismatch, LengthEightOrNine, WrongFcs, WrongHcs, EvenAddress, FrmrReceived, OverLength, SegmentBit, PfClear, WrongDestination, WrongSource, UnknownControl, LinkDownWithInformation, ShortInformation, WrongLlc}
 use Rattle.hdlc.specs.Layout.{frmr}
-use Rattle.hdlc.specs.Tests.{numberOf}
 use Rattle.hdlc.specs.Replies.{replyFrame}
 use Rattle.cosem.specs.declared.Tag.the-variants.{PlainRequest, GlobalAction, DedicatedRequest}
 use Rattle.cosem.specs.declared.ServiceKind.{ServiceKind}
@@ -35,35 +32,9 @@ use Rattle.protocol.specs.Clients.{associates, selectiveIn}
 use Rattle.protocol.specs.Decide.{wrap, acceptedPlain, acceptedCiphered, accepted, advanced, proved, disproved, around, seal, secretsOf, ruled, decide, p2}
 use Rattle.protocol.specs.Outcomes.{outcome, headIn, apduIn, SentBy, Timely, said, Accepted, Brings, Row, refuses, drops, overLength, badFrame, noLink, notAccepted, exception, denial, denialInside, wrongProof, links, tells, grants, grantsInside, RowsHold, FrameNumbers, Silent, Unchanged, Dropping, Dropped, Excepting, plain, inside, LastAccepted, PlainUnchanged, Advanced, counters, association, DeniedBody, DeniedLine}
 use Rattle.protocol.proofs.Claim.{p2-numbers-allowed}
+use Rattle.protocol.proofs.Numbers.{FrameNumber, four, five, eight, nine, frame-number}
 use Rattle.protocol.proofs.Leaves as by
 use Rattle.protocol.proofs.Turns as by-turn
-
--- the numbers of a frame's own tests
-pub data FrameNumber : ℕ → Type 0 where
-  four : FrameNumber 4
-  five : FrameNumber 5
-  eight : FrameNumber 8
-  nine : FrameNumber 9
-
-pub frame-number : (t : FrameTest) → FrameNumber (numberOf t)
-frame-number ShortFrame = four
-frame-number FlagMissing = four
-frame-number FrameType = four
-frame-number LengthMismatch = four
-frame-number LengthEightOrNine = four
-frame-number WrongFcs = four
-frame-number WrongHcs = four
-frame-number EvenAddress = four
-frame-number FrmrReceived = five
-frame-number OverLength = eight
-frame-number SegmentBit = nine
-frame-number PfClear = nine
-frame-number WrongDestination = nine
-frame-number WrongSource = nine
-frame-number UnknownControl = nine
-frame-number LinkDownWithInformation = nine
-frame-number ShortInformation = nine
-frame-number WrongLlc = nine
 
 module _ (a : Lent) (m : Model) where
   row-unheard : {n : ℕ} → FrameNumber n → n < 8 → Row a m (refused n m)

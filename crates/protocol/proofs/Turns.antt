@@ -1,6 +1,6 @@
 -- What the body answers a request: granted, or denied with a result code and the body as it was; and that it fits an envelope.
 use mathlib.Core.Path.{_≡_, refl}
-use mathlib.Core.Bool.{Bool, true, false, cond, not, _&&_}
+use mathlib.Core.Bool.{not, _&&_}
 use mathlib.Core.List.{List}
 use Prim.Native.Nat.{ℕ, _≤_, _<_}
 use native.Mathlib.Omega.{arith}
@@ -12,6 +12,7 @@ use Rattle.model.specs.Limits.{longestSent, textRoom, dataRoom}
 use Rattle.model.specs.State.{Body}
 use Rattle.model.specs.Objects.{Content, Meaning, known, unknown, meaning, serves, Selection, Service, get, action, Request, Result, granted, denied, Picked, these, wrong, attributeData, takesSelector, selectedRows, fitting, shown, attributeRead, methodInvoked, Turn, refusalOf, getAnswer, actionAnswer, afterAction, answered, turned}
 use Rattle.model.proofs.LimitFacts.{text-room, data-room}
+use Rattle.model.proofs.ListLaws.{by-test}
 use Rattle.protocol.specs.Outcomes.{Denial, read, action as acted}
 
 -- Granted or denied.
@@ -43,13 +44,9 @@ abbrev pub Sized : Result → Type 0
 Sized (granted d) = length d ≤ dataRoom longestSent
 Sized (denied c) = Unit {0}
 
-sized-if : (b : Bool) (x y : Result) → (b ≡ true → Sized x) → (b ≡ false → Sized y) → Sized (cond b x y)
-sized-if true x y p q = p refl
-sized-if false x y p q = q refl
-
 sized-fitting : (d : List ℕ) → Sized (fitting d)
 unfolding fitting
-sized-fitting d = sized-if (leb (length d) (dataRoom longestSent)) (granted d) (denied 250) (λ e. leb-true _ _ e) (λ _. tt)
+sized-fitting d = by-test Sized (leb (length d) (dataRoom longestSent)) (λ e. leb-true _ _ e) (λ _. tt)
 
 sized-shown : (x : Content) (n : Name) (a : ℕ) (b : Body) (p : Picked) → Sized (shown x n a b p)
 sized-shown x n a b (these rs) = sized-fitting (attributeData x n a rs b)
@@ -59,8 +56,8 @@ sized-read : (q : Request) (a : ℕ) (s : Selection) (b : Body) (w : Meaning) �
 unfolding attributeRead
 sized-read q a s b unknown = tt
 sized-read q a s b (known o) =
-    sized-if (not (eqb (q .class) (o .class))) _ _ (λ _. tt) λ _.
-    sized-if (not (serves (o .attributes) a)) _ _ (λ _. tt) λ _.
+    by-test Sized (not (eqb (q .class) (o .class))) (λ _. tt) λ _.
+    by-test Sized (not (serves (o .attributes) a)) (λ _. tt) λ _.
     sized-shown (o .content) (q .name) a b (selectedRows (takesSelector (o .content) a && q .selective) s (b .store .rows))
 
 pub read-fits : (invoke : ℕ) (r : Result) → Sized r → length (getAnswer invoke r) ≤ textRoom longestSent
