@@ -35,7 +35,8 @@ use Rattle.acse.specs.Initiate.{initiateResponse}
 use Rattle.acse.specs.Aare.{plainAare, cipheredAareHead, rejectedAare}
 use Rattle.acse.proofs.Layouts.{length-plain as length-aare, length-head, length-rejected}
 use Rattle.acse.proofs.ServiceLaws.{length-common, length-offered}
-use Rattle.envelope.specs.Layout.{Keys, sealedEnvelope}
+use Rattle.material.specs.Material.{Keys}
+use Rattle.envelope.specs.Layout.{sealedEnvelope}
 use Rattle.envelope.proofs.CloseLaws.{length-envelope, envelope-size, envelope-fits}
 use Rattle.protocol.specs.Clients.{counters, selectiveIn, lentKeys, dedicatedKeys}
 use Rattle.protocol.specs.Rulings.{Ruling, decision}

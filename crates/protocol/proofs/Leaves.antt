@@ -26,7 +26,7 @@ use Rattle.hdlc.specs.Layout.{byte}
 use Rattle.hdlc.specs.Addresses.{addressOf, senderOf}
 use Rattle.hdlc.specs.Tests.{FirstOf, meterSide, frameTests, numberOf}
 use Rattle.hdlc.specs.Reading.{readFrame}
-use Rattle.hdlc.proofs.ReadingLaws.{Accepted as AcceptedFrame, Told, read-told}
+use Rattle.hdlc.proofs.ReadingLaws.{AcceptedFrame, Told, read-told}
 use Rattle.cosem.specs.declared.Tag.{Tag}
 use Rattle.cosem.specs.declared.Tag.the-variants.{Aarq, Rlrq, PlainRequest, GlobalAction, DedicatedRequest, Unknown}
 use Rattle.cosem.specs.declared.ServiceKind.{ServiceKind}

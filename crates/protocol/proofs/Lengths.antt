@@ -16,7 +16,7 @@ use Rattle.hdlc.proofs.LayoutLaws.{length-full}
 use Rattle.cosem.specs.declared.Exception.{Exception}
 use Rattle.cosem.specs.declared.Exception.the-variants.{ServiceNotAllowed, ServiceUnknown}
 use Rattle.cosem.specs.Tags.{exceptionBytes, answerTag}
-use Rattle.envelope.specs.Layout.{Keys}
+use Rattle.material.specs.Material.{Keys}
 use Rattle.envelope.specs.Challenge.{proofValue}
 use Rattle.envelope.proofs.CloseLaws.{length-envelope}
 use Rattle.envelope.proofs.ProofLaws.{length-proof}

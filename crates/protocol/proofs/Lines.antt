@@ -9,9 +9,9 @@ use Rattle.model.specs.declared.CipherClient.the-variants.{Han}
 use Rattle.model.specs.declared.Counters.{Counters}
 use Rattle.model.specs.Services.{offered, common}
 use Rattle.model.specs.State.{Association, none, pending, associated, Peer, Line}
-use Rattle.model.specs.Soundness.{knownKind, onLink, agreedWithin, kindsKnown, linksStand, servicesOffered}
+use Rattle.model.specs.Soundness.{knownKind, onLink, agreedWithin, kindsKnown, linksStand, servicesOffered, lineSound}
 use Rattle.model.specs.Calls.{Lent}
-use Rattle.model.specs.Archive.{soundLine, lineAfter, KeepsLines}
+use Rattle.model.specs.Archive.{lineAfter, KeepsLines}
 use Rattle.model.proofs.ListLaws.{both, both-true}
 use Rattle.acse.proofs.ServiceLaws.{common-within}
 use Rattle.protocol.specs.Clients.{peer, withPeer, linked, associates, withAssociation, withCounters, held, agreedIn, keyIn, isPending}
@@ -25,7 +25,7 @@ record Good (c : Client) (p : Peer) : Type 0 where
   link : onLink p ≡ true
   services : agreedWithin (offered c) (p .association) ≡ true
 
-good : (c : Client) (l : Line) → soundLine l ≡ true → Good c (peer c l)
+good : (c : Client) (l : Line) → lineSound l ≡ true → Good c (peer c l)
 good c l s = go c
   where
     k : kindsKnown l && linksStand l ≡ true
@@ -44,14 +44,14 @@ good c l s = go c
     go Verification = record { kind = kinds .0; link = links .0; services = services .0 }
     go (Ciphering Han) = record { kind = kinds .1; link = links .1; services = services .1 }
 
-good-line : (l : Line) → Good Verification (l .verification) → Good (Ciphering Han) (l .han .peer) → soundLine l ≡ true
+good-line : (l : Line) → Good Verification (l .verification) → Good (Ciphering Han) (l .han .peer) → lineSound l ≡ true
 good-line l v h = both-true (both-true (both-true (v .kind) (h .kind)) (both-true (v .link) (h .link))) (both-true (v .services) (h .services))
 
-with-peer : (c : Client) (p : Peer) (l : Line) → Good c p → soundLine l ≡ true → soundLine (withPeer c p l) ≡ true
+with-peer : (c : Client) (p : Peer) (l : Line) → Good c p → lineSound l ≡ true → lineSound (withPeer c p l) ≡ true
 with-peer Verification p l g s = good-line (withPeer Verification p l) g (good (Ciphering Han) l s)
 with-peer (Ciphering Han) p l g s = good-line (withPeer (Ciphering Han) p l) (good Verification l s) g
 
-with-counters : (c : CipherClient) (n : Counters) (l : Line) → soundLine l ≡ true → soundLine (withCounters c n l) ≡ true
+with-counters : (c : CipherClient) (n : Counters) (l : Line) → lineSound l ≡ true → lineSound (withCounters c n l) ≡ true
 with-counters Han n l s = s
 
 good-linked : (c : Client) (up : Bool) (p : Peer) → Good c (linked up p)
@@ -74,17 +74,17 @@ agreed-stays c none e w = absurd (false≢true e)
 agreed-stays c (pending ag k d m) e w = w
 agreed-stays c (associated ag k) e w = absurd (false≢true e)
 
-module _ (l : Line) (a : Lent) (s : soundLine l ≡ true) where
-  ends : (c : Client) → soundLine (associates c none l) ≡ true
+module _ (l : Line) (a : Lent) (s : lineSound l ≡ true) where
+  ends : (c : Client) → lineSound (associates c none l) ≡ true
   ends c = with-peer c (withAssociation none (peer c l)) l (good-ended c (peer c l)) s
 
-  links : (c : Client) (up : Bool) → soundLine (withPeer c (linked up (peer c l)) l) ≡ true
+  links : (c : Client) (up : Bool) → lineSound (withPeer c (linked up (peer c l)) l) ≡ true
   links c up = with-peer c (linked up (peer c l)) l (good-linked c up (peer c l)) s
 
-  stands : (c : Client) (x : Association) → knownKind c x ≡ true → agreedWithin (offered c) x ≡ true → peer c l .up ≡ true → soundLine (associates c x l) ≡ true
+  stands : (c : Client) (x : Association) → knownKind c x ≡ true → agreedWithin (offered c) x ≡ true → peer c l .up ≡ true → lineSound (associates c x l) ≡ true
   stands c x k o up = with-peer c (withAssociation x (peer c l)) l (good-standing c x (peer c l) k o up) s
 
-  keeps-leaf : {r : Ruling} → by.Leaf l a r → soundLine (lineAfter (decision r)) ≡ true
+  keeps-leaf : {r : Ruling} → by.Leaf l a r → lineSound (lineAfter (decision r)) ≡ true
   unfolding acceptedPlain acceptedCiphered proved disproved
   keeps-leaf (by.unheard t n) = s
   keeps-leaf (by.rejects t n first) = s
