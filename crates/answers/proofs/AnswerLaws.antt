@@ -10,7 +10,7 @@ use Rattle.model.specs.State.{Body}
 use Rattle.model.specs.Objects.{Meaning, known, unknown, Selection, Parameter, get, action, Request, granted, denied, attributeRead, methodInvoked, afterAction, answered}
 use Rattle.model.proofs.LimitFacts.{data-room, text-room}
 use Rattle.body.specs.View.{bodyOf}
-use Rattle.answers.specs.declared.Answered.{Answered}
+use Rattle.answers.specs.declared.Written.{Written}
 use Rattle.answers.specs.Promise.{Turns}
 
 -- where an answer is denied the body is as it was
@@ -18,7 +18,7 @@ after-denied : (w : Meaning) (b : Body) (c : ℕ) → b ≡ afterAction w b (den
 after-denied unknown b c = refl
 after-denied (known o) b c = refl
 
-module _ (q : Request) (b : Body) (w : Meaning) {l m : List ℕ} {at : ℕ} (r : Answered) where
+module _ (q : Request) (b : Body) (w : Meaning) {l m : List ℕ} {at : ℕ} (r : Written) where
   module _ (a : ℕ) (s : Selection) (e : bodyOf (r .body) ≡ b) where
     pub read-granted : (d : List ℕ) → granted d ≡ attributeRead q a s b w → length d ≤ dataRoom longestSent → r .refusal ≡ 0
         → Wrote l at m (r .next) (0xC4 ∷ 0x01 ∷ q .invoke ∷ 0x00 ∷ d) → Turns (answered q b w (get a s)) l at m r

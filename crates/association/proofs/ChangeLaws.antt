@@ -17,7 +17,7 @@ use Rattle.line.specs.Left.{restingCipher}
 use Rattle.line.specs.Parties.{partyOf, withCipher}
 use Rattle.line.specs.View.{cipherOf, lineOf}
 use Rattle.protocol.specs.Clients.{agreedIn, associates, counters, held, keyIn, linked, peer, withCounters, withPeer}
-use Rattle.association.specs.Ends.{Answered, Ends}
+use Rattle.association.specs.Ends.{Proven, Ends}
 
 pub rested-line : (c : CipherClient) (up : Bool) (l r : LineState) (t : List ℕ) (n : Counters) (h : CipherParty) → t ≡ peer (Ciphering c) (lineOf l) .title
     → n ≡ counters c (lineOf l)
@@ -40,7 +40,7 @@ pub answered-line : (c : CipherClient) (n : Counters) (l r : LineState) (q p : P
     → p ≡ record { title = q .title; up = q .up; phase = Associated; agreed = agreed }
     → key ≡ keyIn (held c (lineOf l))
     → r ≡ withCipher c (record { party = p; key = key; client = replicate 8 0; meter = replicate 8 0; counters = n }) l
-    → Answered c n (lineOf l) r
+    → Proven c n (lineOf l) r
 unfolding lineOf
 answered-line Han n l r q p agreed key e a f k g = rw (g, k, f, a, e) (record { view = refl; wiped = record { client = refl; meter = refl } })
 

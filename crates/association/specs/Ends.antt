@@ -16,6 +16,6 @@ pub record Ends (c : Client) (becomes : Line) (l : LineState) : Type 0 where
   pub wiped : Wiped c l
 
 -- the client is associated by what the line held of it, with these counters, and its challenges are left nowhere
-pub record Answered (c : CipherClient) (n : Counters) (before : Line) (l : LineState) : Type 0 where
+pub record Proven (c : CipherClient) (n : Counters) (before : Line) (l : LineState) : Type 0 where
   pub view : lineOf l ≡ withCounters c n (associates (Ciphering c) (associated (agreedIn (held c before)) (keyIn (held c before))) before)
   pub wiped : NoChallenges (cipherOf c l)

@@ -24,7 +24,7 @@ ghost use Rattle.model.specs.declared.Client.the-variants.{Verification, Cipher
 ghost use Rattle.model.specs.State.{none, «pending» as pendingWith, associated};
 ghost use Rattle.line.specs.View.{lineOf};
 ghost use Rattle.protocol.specs.Clients.{associates, linked, peer, withCounters, withPeer};
-ghost use Rattle.association.specs.Ends.{Answered, Ends};
+ghost use Rattle.association.specs.Ends.{Proven, Ends};
 
 // The client's link is up, or down, and its association ends.
 pub fn with_link(line: LineState, client: Client, up: bool) -> LineState
@@ -87,7 +87,7 @@ pub fn pending(
 
 // It is associated: what was agreed and its key stay, and the challenges are wiped.
 pub fn associated_ciphered(line: LineState, client: CipherClient, counters: Counters) -> LineState
-    ensures { λ r. ⌜ Answered client counters (lineOf line) r ⌝ }
+    ensures { λ r. ⌜ Proven client counters (lineOf line) r ⌝ }
 {
     let p = party_of(line, Client::Ciphering(client));
     let agreed = agreed_in(line, Client::Ciphering(client));

@@ -12,7 +12,6 @@ use Rattle.model.specs.declared.CipherClient.{CipherClient}
 use Rattle.model.specs.declared.Client.the-variants.{Verification, Ciphering}
 use Rattle.model.specs.declared.Counters.{Counters}
 use Rattle.model.specs.State.{Association, none, pending, associated, Peer, Line}
-use Rattle.model.specs.Objects.{answered}
 use Rattle.model.specs.Soundness.{isNone}
 use Rattle.wire.specs.Wrote.{Wrote}
 use Rattle.wire_write.proofs.WroteLaws.{past}
@@ -59,13 +58,13 @@ not-both (associated a k) h q = absurd (false≢true h)
 
 -- one client's part is replaced: an association that this client, or another one, has no more
 module _ (next : LineState) (d : Client) (p : Peer) (l : Line) where
-  gone : (c : Client) → (c ≡ d → isNone (p .association) ≡ true → Wiped c next) → isNone (peer c l .association) ≡ false → isNone (peer c (withPeer d p l) .association) ≡ true → Wiped c next
-  gone c w h q =
+  ended-one : (c : Client) → (c ≡ d → isNone (p .association) ≡ true → Wiped c next) → isNone (peer c l .association) ≡ false → isNone (peer c (withPeer d p l) .association) ≡ true → Wiped c next
+  ended-one c w h q =
       ⊎-elim (λ e. w e (ap (λ (x : Peer). isNone (x .association)) (sym (own-part d p l)) ∙ rw e at q))
       (λ e. no-end h (ap (λ (x : Peer). isNone (x .association)) (sym e) ∙ q)) (other-part c d p l)
 
-  proven : (c : CipherClient) → (Ciphering c ≡ d → isAssociated (p .association) ≡ true → NoChallenges (cipherOf c next)) → isPending (held c l) ≡ true → isAssociated (held c (withPeer d p l)) ≡ true → NoChallenges (cipherOf c next)
-  proven c w h q =
+  proved-one : (c : CipherClient) → (Ciphering c ≡ d → isAssociated (p .association) ≡ true → NoChallenges (cipherOf c next)) → isPending (held c l) ≡ true → isAssociated (held c (withPeer d p l)) ≡ true → NoChallenges (cipherOf c next)
+  proved-one c w h q =
       ⊎-elim (λ e. w e (ap (λ (x : Peer). isAssociated (x .association)) (sym (own-part d p l)) ∙ subst (λ (y : Client). isAssociated (peer y (withPeer d p l) .association) ≡ true) e q))
       (λ e. not-both (held c l) h (ap (λ (x : Peer). isAssociated (x .association)) (sym e) ∙ q)) (other-part (Ciphering c) d p l)
 
@@ -74,15 +73,15 @@ module _ (next : LineState) where
   pub ends-one : (d : Client) (p : Peer) (l : Line) → Wiped d next → Wipes l (withPeer d p l) next
   ends-one d p l w =
       record {
-        ended = λ c h q. gone next d p l c (λ e _. subst (λ (y : Client). Wiped y next) (sym e) w) h q;
-        answered = λ c h q. proven next d p l c (λ e _. subst (λ (y : Client). Wiped y next) (sym e) w .challenges) h q;
+        ended = λ c h q. ended-one next d p l c (λ e _. subst (λ (y : Client). Wiped y next) (sym e) w) h q;
+        proven = λ c h q. proved-one next d p l c (λ e _. subst (λ (y : Client). Wiped y next) (sym e) w .challenges) h q;
       }
 
   -- one client has an association; where it is associated, nothing is left of its challenges
   stands-one : (d : Client) (x : Association) (l : Line) → isNone x ≡ false
       → ((c : CipherClient) → Ciphering c ≡ d → isAssociated x ≡ true → NoChallenges (cipherOf c next)) → Wipes l (associates d x l) next
   stands-one d x l e a =
-      record { ended = λ c h q. gone next d _ l c (λ _ g. no-end e g) h q; answered = λ c h q. proven next d _ l c (a c) h q }
+      record { ended = λ c h q. ended-one next d _ l c (λ _ g. no-end e g) h q; proven = λ c h q. proved-one next d _ l c (a c) h q }
 
   pub stands-plain : (x : Association) (l : Line) → isNone x ≡ false → Wipes l (associates Verification x l) next
   stands-plain x l e = stands-one Verification x l e (λ c q. absurd (false≢true (sym (ap ciphers q))))
@@ -95,7 +94,7 @@ module _ (next : LineState) where
   counted d n l w =
       record {
         ended = λ c h q. w .ended c h (ap (λ (x : Peer). isNone (x .association)) (sym (counted-part d n l c)) ∙ q);
-        answered = λ c h q. w .answered c h (ap (λ (x : Peer). isAssociated (x .association)) (sym (counted-part d n l (Ciphering c))) ∙ q);
+        proven = λ c h q. w .proven c h (ap (λ (x : Peer). isAssociated (x .association)) (sym (counted-part d n l (Ciphering c))) ∙ q);
       }
 
 -- nor is the last accepted counter
@@ -109,7 +108,7 @@ pub same-wipes : {l n : Line} (next : LineState) → SameAssociations l n → Wi
 same-wipes {l} next k =
     record {
       ended = λ c h q. no-end h (sym (ap isNone (k c)) ∙ q);
-      answered = λ c h q. not-both (held c l) h (sym (ap isAssociated (k (Ciphering c))) ∙ q);
+      proven = λ c h q. not-both (held c l) h (sym (ap isAssociated (k (Ciphering c))) ∙ q);
     }
 
 -- by the line of the code
@@ -118,11 +117,11 @@ module _ (m : Meter) (next : LineState) {becomes : Line} (v : lineOf next ≡ be
   leaves b w =
       record {
         ended = λ c h q. w .ended c h (ap (λ (y : Line). isNone (peer c y .association)) (sym v) ∙ q);
-        answered = λ c h q. w .answered c h (ap (λ (y : Line). isAssociated (held c y)) (sym v) ∙ q);
+        proven = λ c h q. w .proven c h (ap (λ (y : Line). isAssociated (held c y)) (sym v) ∙ q);
       }
 
 pub kept-leaves : (m : Meter) → LeavesNothing m m
-kept-leaves m = record { ended = λ c h q. no-end h q; answered = λ c h q. not-both (held c (lineOf (m .line))) h q }
+kept-leaves m = record { ended = λ c h q. no-end h q; proven = λ c h q. not-both (held c (lineOf (m .line))) h q }
 
 -- Rulings.
 

@@ -25,7 +25,7 @@ handed r l o = record { refusal = r .refusal; count = r .count; meter = r .meter
 -- the view does not show them.
 pub record Wipes (before after : Line) (next : LineState) : Type 0 where
   pub ended : (c : Client) → isNone (peer c before .association) ≡ false → isNone (peer c after .association) ≡ true → Wiped c next
-  pub answered : (c : CipherClient) → isPending (held c before) ≡ true → isAssociated (held c after) ≡ true → NoChallenges (cipherOf c next)
+  pub proven : (c : CipherClient) → isPending (held c before) ≡ true → isAssociated (held c after) ≡ true → NoChallenges (cipherOf c next)
 
 abbrev pub LeavesNothing : Meter → Meter → Type 0
 LeavesNothing m n = Wipes (lineOf (m .line)) (lineOf (n .line)) (n .line)
