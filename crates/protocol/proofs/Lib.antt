@@ -10,4 +10,4 @@ pub mod Outcomes
 pub mod Framed
 pub mod LinkUp
 pub mod SecondRow
-pub mod HanEntrance
+pub mod Entrance

@@ -17,7 +17,7 @@ use Rattle.protocol.specs.Decide.{accepted, advanced}
 
 -- By cases of the clients that cipher.
 
-own-ciphering : (c : CipherClient) (p : CipheringPeer) (l : Line) → ciphering c (withCiphering c p l) ≡ p
+pub own-ciphering : (c : CipherClient) (p : CipheringPeer) (l : Line) → ciphering c (withCiphering c p l) ≡ p
 own-ciphering Han p l = refl
 
 other-ciphering : (c d : CipherClient) (p : CipheringPeer) (l : Line) → (c ≡ d) ⊎ (ciphering c (withCiphering d p l) ≡ ciphering c l)
@@ -29,13 +29,18 @@ other-plain Han p l = refl
 ciphering-beside : (c : CipherClient) (p : Peer) (l : Line) → ciphering c (withPeer Verification p l) ≡ ciphering c l
 ciphering-beside Han p l = refl
 
-own-title : (c : CipherClient) (p : CipheringPeer) (l : Line) → withCiphering c p l .title ≡ l .title
+pub own-title : (c : CipherClient) (p : CipheringPeer) (l : Line) → withCiphering c p l .title ≡ l .title
 own-title Han p l = refl
 
 -- counters and an association may change in either order
 pub associates-counted : (c : CipherClient) (x : Association) (n : Counters) (l : Line)
     → associates (Ciphering c) x (withCounters c n l) ≡ withCounters c n (associates (Ciphering c) x l)
 associates-counted Han x n l = refl
+
+-- of an association and counters that are replaced nothing is left
+pub replaced : (c : CipherClient) (n k : Counters) (x y : Association) (l : Line)
+    → withCounters c n (associates (Ciphering c) y (withCounters c k (associates (Ciphering c) x l))) ≡ withCounters c n (associates (Ciphering c) y l)
+replaced Han n k x y l = refl
 
 -- the line after a request: the counters after it, and all else as it was
 pub advanced-is : (c : CipherClient) (counter : ℕ) (l : Line)

@@ -1,7 +1,7 @@
 -- The lazy meters that document 01 names ("What the contracts owe the archive"), each shut out by what its calls come to: "the
 -- meter that is always silent, the one that answers DM to all, the one that leaves its state unchanged (a link-up must let an
 -- AARQ in), the one that takes the first row and only pretends at the second, and one with an invented record number or
--- counter". Proved in proofs/LinkUp, proofs/HanEntrance and proofs/SecondRow. Of the record number speak `DueTicks` and `NumberStays` of the
+-- counter". Proved in proofs/LinkUp, proofs/Entrance and proofs/SecondRow. Of the record number speak `DueTicks` and `NumberStays` of the
 -- model, proved at this protocol in proofs/Claim.
 use mathlib.Core.Path.{_≡_}
 use mathlib.Core.Bool.{true, false}
@@ -46,7 +46,7 @@ use Rattle.envelope.specs.Layout.{sealedEnvelope}
 use Rattle.envelope.specs.Opening.{opens, opened}
 use Rattle.envelope.specs.Challenge.{proofValue}
 use Rattle.meter.specs.SameSecond.{nextRow}
-use Rattle.protocol.specs.Clients.{ciphering, held, peer, withPeer, linked, associates, withCounters, agreedIn, keyIn, selectiveIn, isAssociated, serviceAgreed}
+use Rattle.protocol.specs.Clients.{ciphering, held, peer, withPeer, linked, associates, counters, withCounters, agreedIn, keyIn, selectiveIn, isAssociated, serviceAgreed}
 use Rattle.protocol.specs.Rulings.{provedText}
 use Rattle.protocol.specs.Decide.{accepted, advanced, p2}
 use Rattle.protocol.specs.Examples.{linkUpFrame}
@@ -148,16 +148,16 @@ LinkUpAnswered =
     → LinksUp Verification link
     → Speaks (outcome link m .sent)
 
--- H is let in as well: by a link-up, an AARQ, and the challenge answered.
+-- A client that ciphers is let in as well: by a link-up, an AARQ, and the challenge answered.
 
--- H's initiate request with this dedicated key, these proposed services and this size
-unfoldable pub initiateOfH : (key services size : List ℕ) → List ℕ
-initiateOfH key services size =
+-- its initiate request with this dedicated key, these proposed services and this size
+unfoldable pub keyedInitiate : (key services size : List ℕ) → List ℕ
+keyedInitiate key services size =
     (0x01 ∷ 0x01 ∷ 0x10 ∷ []) ++ key ++ (0x00 ∷ 0x00 ∷ 0x06 ∷ 0x5F ∷ 0x1F ∷ 0x04 ∷ 0x00 ∷ []) ++ services ++ size
 
--- H's AARQ around an envelope
-unfoldable pub aarqOfH : (title challenge envelope : List ℕ) → List ℕ
-aarqOfH title challenge envelope =
+-- its AARQ around an envelope
+unfoldable pub aarqAround : (title challenge envelope : List ℕ) → List ℕ
+aarqAround title challenge envelope =
     (0x60 ∷ 0x66 ∷ 0xA1 ∷ 0x09 ∷ 0x06 ∷ 0x07 ∷ [])
     ++ cipheredContext
     ++ (0xA6 ∷ 0x0A ∷ 0x04 ∷ 0x08 ∷ [])
@@ -169,10 +169,13 @@ aarqOfH title challenge envelope =
     ++ (0xBE ∷ 0x34 ∷ 0x04 ∷ 0x32 ∷ [])
     ++ envelope
 
--- the ACTION with H's proof: class 15, 0.0.40.0.4.255, method 1
-unfoldable pub proofOfH : (invoke : ℕ) → (proof : List ℕ) → List ℕ
-proofOfH invoke proof =
-    (0xC3 ∷ 0x01 ∷ invoke ∷ 0x00 ∷ 0x0F ∷ 0x00 ∷ 0x00 ∷ 0x28 ∷ 0x00 ∷ 0x04 ∷ 0xFF ∷ 0x01 ∷ 0x01 ∷ []) ++ proof
+-- the ACTION with its proof: class 15, method 1, and the name of its challenge; of H 0.0.40.0.4.255
+abbrev pub challengeByte : CipherClient → ℕ
+challengeByte Han = 4
+
+unfoldable pub proofAction : CipherClient → (invoke : ℕ) → (proof : List ℕ) → List ℕ
+proofAction c invoke proof =
+    (0xC3 ∷ 0x01 ∷ invoke ∷ 0x00 ∷ 0x0F ∷ 0x00 ∷ 0x00 ∷ 0x28 ∷ 0x00 ∷ challengeByte c ∷ 0xFF ∷ 0x01 ∷ 0x01 ∷ []) ++ proof
 
 -- The keys are those that the client has, told here apart from the meter's `lentKeys` and `dedicatedKeys`: GUK, and AK beside it, until it
 -- is associated; then its dedicated key, and AK beside it.
@@ -182,7 +185,7 @@ entranceKeys a = keysFrom (a .guk) (a .ak)
 abbrev pub requestKeys : CipherClient → Lent → Line → Keys
 requestKeys c a l = keysFrom (keyIn (held c l)) (a .ak)
 
--- what H sends: its dedicated key and challenge, its services and size, the counters of its AARQ, of its proof and of the
+-- what it sends: its dedicated key and challenge, its services and size, the counters of its AARQ, of its proof and of the
 -- envelope around that, and the invoke byte
 pub record Entrance : Type 0 where
   pub key : List ℕ
@@ -207,57 +210,57 @@ pub record Allowed (e : Entrance) : Type 0 where
   pub window : e .outer ≤ e .first + windowSize
   pub small : e .outer < 256 ^ 4
 
--- the three frames, by H's title; the second is lent the challenge that the third answers
-pub record Enters (title : List ℕ) (e : Entrance) (link aarq proof : Lent) : Type 0 where
-  pub links : LinksUp (Ciphering Han) link
+-- the three frames, by its title; the second is lent the challenge that the third answers
+pub record Enters (c : CipherClient) (title : List ℕ) (e : Entrance) (link aarq proof : Lent) : Type 0 where
+  pub links : LinksUp (Ciphering c) link
   pub asks :
       aarq .received
-      ≡ requestFrame (Ciphering Han)
-      (aarqOfH title (e .challenge)
-      (sealedEnvelope (entranceKeys aarq) title 0x21 (e .first) (initiateOfH (e .key) (e .services) (e .size))))
+      ≡ requestFrame (Ciphering c)
+      (aarqAround title (e .challenge)
+      (sealedEnvelope (entranceKeys aarq) title 0x21 (e .first) (keyedInitiate (e .key) (e .services) (e .size))))
   pub proves :
       proof .received
-      ≡ requestFrame (Ciphering Han)
+      ≡ requestFrame (Ciphering c)
       (sealedEnvelope (entranceKeys proof) title 0xCB (e .outer)
-      (proofOfH (e .invoke) (proofValue (entranceKeys proof) title (aarq .challenge) (e .inner))))
+      (proofAction c (e .invoke) (proofValue (entranceKeys proof) title (aarq .challenge) (e .inner))))
 
--- each is accepted. The AARE's envelope goes out under the meter's counter plus one, and H is pending; the meter's proof goes out
--- under the next, its envelope under the one after, and H is associated with the services agreed and its key.
-pub record LetInH (m : Model) (e : Entrance) (link aarq proof : Lent) : Type 0 where
-  pub first : outcome link m ≡ said 0 (uaFrame (headIn link)) (up (Ciphering Han) (m .line)) m
+-- each is accepted. The AARE's envelope goes out under the meter's counter plus one, and the client is pending; the meter's proof goes out
+-- under the next, its envelope under the one after, and the client is associated with the services agreed and its key.
+pub record LetInCiphering (c : CipherClient) (m : Model) (e : Entrance) (link aarq proof : Lent) : Type 0 where
+  pub first : outcome link m ≡ said 0 (uaFrame (headIn link)) (up (Ciphering c) (m .line)) m
   pub second :
       outcome aarq (outcome link m .next)
-      ≡ (let sent = m .line .han .counters .sent in
-      let agreed = common (e .services) (offered (Ciphering Han)) in
+      ≡ (let sent = counters c (m .line) .sent in
+      let agreed = common (e .services) (offered (Ciphering c)) in
       said 0
       (apduFrame (headIn aarq)
-      (cipheredAareHead (Ciphering Han) (m .line .title) (aarq .challenge)
+      (cipheredAareHead (Ciphering c) (m .line .title) (aarq .challenge)
       ++ sealedEnvelope (entranceKeys aarq) (m .line .title) 0x28 (nextCounter sent) (initiateResponse agreed)))
-      (withCounters Han (record { accepted = e .first; sent = nextCounter sent })
-      (associates (Ciphering Han) (pending agreed (e .key) (e .challenge) (aarq .challenge)) (up (Ciphering Han) (m .line))))
+      (withCounters c (record { accepted = e .first; sent = nextCounter sent })
+      (associates (Ciphering c) (pending agreed (e .key) (e .challenge) (aarq .challenge)) (up (Ciphering c) (m .line))))
       m)
   pub third :
       outcome proof (outcome aarq (outcome link m .next) .next)
-      ≡ (let number = nextCounter (nextCounter (m .line .han .counters .sent)) in
+      ≡ (let number = nextCounter (nextCounter (counters c (m .line) .sent)) in
       let keys = entranceKeys proof in
       said 0
       (apduFrame (headIn proof)
       (sealedEnvelope keys (m .line .title) 0xCF (nextCounter number) (provedText keys (m .line .title) (e .challenge) (e .invoke) number)))
-      (withCounters Han (record { accepted = e .outer; sent = nextCounter number })
-      (associates (Ciphering Han) (associated (common (e .services) (offered (Ciphering Han))) (e .key)) (up (Ciphering Han) (m .line))))
+      (withCounters c (record { accepted = e .outer; sent = nextCounter number })
+      (associates (Ciphering c) (associated (common (e .services) (offered (Ciphering c))) (e .key)) (up (Ciphering c) (m .line))))
       m)
 
-abbrev pub HanLetIn : Type 0
-HanLetIn =
-    (m : Model) (e : Entrance) (link aarq proof : Lent)
+abbrev pub CipheringLetIn : Type 0
+CipheringLetIn =
+    (c : CipherClient) (m : Model) (e : Entrance) (link aarq proof : Lent)
     → sound m ≡ true
-    → length (m .line .han .peer .title) ≡ 8
+    → length (ciphering c (m .line) .peer .title) ≡ 8
     → Enough link
     → Enough aarq
     → Enough proof
     → Allowed e
-    → Enters (m .line .han .peer .title) e link aarq proof
-    → LetInH m e link aarq proof
+    → Enters c (ciphering c (m .line) .peer .title) e link aarq proof
+    → LetInCiphering c m e link aarq proof
 
 -- An invented counter: every request in an envelope that is opened and read.
 
