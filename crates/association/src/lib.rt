@@ -1,5 +1,5 @@
-// The clients on the line in code: what the line tells of a client's link, association and keys, and, in `change`, what it
-// becomes (document 01, "The association"). Each answers for every line; crate protocol says what each means.
+// The clients on the line in code: what a client's association permits, its keys, and, in `change`, what the line becomes
+// (document 01, "The association"). Each answers for every line; crate protocol says what each means.
 mod change;
 
 pub use change::associated_ciphered;

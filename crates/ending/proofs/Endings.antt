@@ -1,4 +1,4 @@
--- How a call ends: from what went out, the number and the line or the body afterwards, to what a ruling of the protocol and
+-- How a call ends that the line answers: from what went out, the number and the line afterwards, to what a ruling of the protocol
 -- promises.
 use mathlib.Core.Path.{_≡_, refl, sym, ap, subst, _∙_}
 use mathlib.Core.Bool.{Bool, true, false, false≢true}

@@ -153,7 +153,7 @@ module _ (f : List ℕ) (passes : AllPass meterSide f frameTests) where
       let n = length-envelope k title tag number text in
       framed-apdu (sealedEnvelope k title tag number text) (omega (arith, envelope-size (length text))) (omega (arith, envelope-fits (length text) (omega arith)))
 
-  -- the body's answer, to V and to H
+  -- the body's answer, to V and to a client that ciphers
   framed-plain : (l : Line) (ak text : List ℕ) → 0 < length text → length text ≤ textRoom longestSent → Framed f (seal l (wrap ak Verification (headOf f) 0xC0) text)
   unfolding seal around
   framed-plain l ak text some h = framed-apdu text some (omega (arith, apdu-room, text-room))

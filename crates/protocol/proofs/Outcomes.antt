@@ -49,7 +49,7 @@ module _ (a : Lent) (m : Model) where
   row-rejected eight h = overLength
   row-rejected nine h = badFrame
 
-  -- the body's answer, to V and to H
+  -- the body's answer, to V and to a client that ciphers
   row-served : (q : Request) → q .client ≡ Verification → Timely a (m .line) Verification (PlainRequest Get) → by-turn.Turning (m .body) (turned q (m .body))
       → Row a m (decided p2 (serve q (wrap (a .ak) Verification (headIn a) 0xC0) (m .line)) m)
   unfolding seal around

@@ -1,4 +1,4 @@
--- An enclosed request of H is answered under the meter's next counter, and so both rows of a second are read:
+-- A request in an envelope is answered under the meter's next counter, and so both rows of a second are read:
 -- `NextCounter` and `SecondRowRead` of specs/Lazy, proved.
 use mathlib.Core.Path.{_≡_, refl, sym, ap, _∙_}
 use mathlib.Core.Bool.{Bool, true, false, _||_, false≢true}

@@ -1,5 +1,5 @@
--- The clients on the line: each one's link and association, what an association holds and permits, and the keys of the one
--- that ciphers (document 01, "The association").
+-- The clients on the line: what an association permits, and the keys of a client that ciphers (document 01, "The association"). Each
+-- one's link, and what its association holds, are defined in model and line.
 use mathlib.Core.Bool.{Bool, true, false, not, _&&_}
 use mathlib.Core.List.{List}
 use Prim.Native.Nat.{ℕ}

@@ -227,7 +227,7 @@ byTag l a c h s Rlrq = released l c h s
 byTag l a c h s (PlainRequest k) = asked l a c h s (readService k s)
 byTag l a c h s GlobalAction = ofCiphering l c h (λ d. challengeEnclosed l a d h s)
 byTag l a c h s (DedicatedRequest k) = ofCiphering l c h (λ d. requestEnclosed l a d h k s)
--- never reached, as no state permits these tags; whatever stood here, every APDU would be ruled the same (`Unreached`, below)
+-- never reached, as an unknown tag is refused before; whatever stood here, every APDU would be ruled the same (`Unreached`, below)
 byTag l a c h s Unknown = says unknownTag (apdu h (exceptionBytes ServiceUnknown)) l
 
 -- "Tests in order: a tag other than .. D8 02 02; a tag not permitted here, or GET or ACTION without its agreed bit, D8 01 01"; then

@@ -79,7 +79,7 @@ pub record Timely (a : Lent) (l : Line) (c : Client) (t : Tag) : Type 0 where
   pub permits : permitted c (peer c l .association) t ≡ true
   pub agreed : bitAgreed (agreedIn (peer c l .association)) t ≡ true
 
--- the services of H's enclosed requests: "GET (V: C0, H: D0) and for H ACTION (D3)"
+-- the services of requests in envelopes: "GET (V: C0, H: D0) and for H ACTION (D3)"
 pub data Enclosed : ServiceKind → Type 0 where
   get : Enclosed Get
   action : Enclosed Action
@@ -144,8 +144,8 @@ pub data Denial : List ℕ → Type 0 where
   read : (invoke code : ℕ) → Denial (getAnswer invoke (denied code))
   action : (invoke code : ℕ) → Denial (actionAnswer invoke (denied code))
 
--- what goes out around an answer to V's request, and around one to H's with this tag: in an envelope, of which the meter's
--- counter plus one is the counter
+-- what goes out around an answer to V's request, and around one to a ciphering client's with this tag: in an envelope, of which the
+-- meter's counter plus one is the counter
 abbrev pub toV : Lent → List ℕ → List ℕ
 toV a text = apduFrame (headIn a) text
 
@@ -214,8 +214,8 @@ keeping = 1 ∷ 2 ∷ 3 ∷ 4 ∷ 5 ∷ 6 ∷ 8 ∷ 9 ∷ 10 ∷ 11 ∷ []
 abbrev pub Unchanged : Type 0
 Unchanged = (a : Lent) (m : Model) → listed (outcome a m .refusal) keeping ≡ true → outcome a m .next ≡ m
 
--- 7: "that association is dropped", and nothing else. The frame brought an envelope of H that opened, so that no forged frame
--- drops an association, and its counter lay outside the window.
+-- 7: "that association is dropped", and nothing else. The frame brought an envelope of this client that opened, so that no forged
+-- frame drops an association, and its counter lay outside the window.
 pub record Dropping (a : Lent) (m after : Model) : Type 0 where
   pub client : CipherClient
   pub tag : Tag
