@@ -200,24 +200,24 @@ module _ (a : Lent) (m : Model) (title : length (m .line .title) ≡ 8) (challen
   framed-leaf (by.noLink t from n) e = framed-empty f (from .passes) dm (λ q. omega arith)
   framed-leaf (by.goesUp c from p) e = framed-empty f (from .passes) ua (λ q. omega arith)
   framed-leaf (by.goesDown c from up) e = framed-empty f (from .passes) ua (λ q. omega arith)
-  framed-leaf (by.excepts t {e = x} n from up y) e = framed-exception f (from .passes) x
-  framed-leaf (by.departs c t) e = let n = length-rejected c in framed-apdu f (t .heard .passes) (rejectedAare c) (omega arith) (omega (arith, apdu-room))
+  framed-leaf (by.excepts t {e = x} n r y) e = framed-exception f (r .heard .passes) x
+  framed-leaf (by.departs c t) e = let n = length-rejected c in framed-apdu f (t .reaches .heard .passes) (rejectedAare c) (omega arith) (omega (arith, apdu-room))
   framed-leaf (by.associatesPlain proposed t) e =
       let agreed = common proposed (offered Verification) in
       let n = length-aare Verification (l .title) title agreed (length-common proposed (offered Verification)) in
-      framed-apdu f (t .heard .passes) (plainAare Verification (l .title) agreed) (omega arith) (omega (arith, apdu-room))
-  framed-leaf (by.begins c client key proposed n t) e = framed-accepted (t .heard .passes) c proposed _
-  framed-leaf (by.releases c t) e = framed-apdu f (t .heard .passes) releaseResponse (omega arith) (omega (arith, apdu-room))
+      framed-apdu f (t .reaches .heard .passes) (plainAare Verification (l .title) agreed) (omega arith) (omega (arith, apdu-room))
+  framed-leaf (by.begins c client key proposed n t) e = framed-accepted (t .reaches .heard .passes) c proposed _
+  framed-leaf (by.releases c t) e = framed-apdu f (t .reaches .heard .passes) releaseResponse (omega arith) (omega (arith, apdu-room))
   framed-leaf (by.serves q t r) e =
       let q = requested Verification (selectiveIn Verification l) (apduIn a) q in
-      framed-plain f (t .heard .passes) l (a .ak) _ (turned-some q (m .body)) (turned-fits q (m .body))
+      framed-plain f (t .reaches .heard .passes) l (a .ak) _ (turned-some q (m .body)) (turned-fits q (m .body))
   framed-leaf (by.unopened t) e = absurd (false≢true e)
   framed-leaf (by.drops c o w) e = absurd (false≢true e)
-  framed-leaf (by.exceptsInside t c {e = x} k o w y) e = framed-exception f (o .timely .heard .passes) x
-  framed-leaf (by.proves c invoke n o w) e = framed-sealed f (o .timely .heard .passes) _ _ _ _ _ (length-proved _ _ _ _ _) (omega (arith, text-room))
-  framed-leaf (by.disproves c invoke n o w) e = framed-sealed f (o .timely .heard .passes) _ _ _ _ _ refl (omega (arith, text-room))
+  framed-leaf (by.exceptsInside t c {e = x} k o w y) e = framed-exception f (o .timely .reaches .heard .passes) x
+  framed-leaf (by.proves c invoke n o w) e = framed-sealed f (o .timely .reaches .heard .passes) _ _ _ _ _ (length-proved _ _ _ _ _) (omega (arith, text-room))
+  framed-leaf (by.disproves c invoke n o w) e = framed-sealed f (o .timely .reaches .heard .passes) _ _ _ _ _ refl (omega (arith, text-room))
   framed-leaf (by.servesInside c k {n} {text} q o w r) e =
-      framed-inside f (o .timely .heard .passes) c (advanced c (accepted c n l)) (a .ak) _ (dedicatedTag k) (turned-fits (requested (Ciphering c) (selectiveIn (Ciphering c) l) text q) (m .body))
+      framed-inside f (o .timely .reaches .heard .passes) c (advanced c (accepted c n l)) (a .ak) _ (dedicatedTag k) (turned-fits (requested (Ciphering c) (selectiveIn (Ciphering c) l) text q) (m .body))
 
 -- where refusal 2 is not met, the challenge has 8 bytes
 lent-challenge : (a : Lent) → lentRefusal a ≡ 0 → length (a .challenge) ≡ 8

@@ -2,8 +2,8 @@
 -- statements about all frames go by cases of `Leaf`: a sound line stays sound (proofs/Lines), the rows of document 01's table
 -- (proofs/Outcomes), what goes out is a frame (proofs/Framed). A branch more in specs/Decide is one leaf here and one clause in
 -- each of them. The rows of specs/Outcomes are a data type of their own, since they speak of whole calls, in the table's words.
-use mathlib.Core.Path.{_≡_, refl, ap, _∙_}
-use mathlib.Core.Bool.{Bool, true, false, cond, not, _&&_, false≢true, and-false}
+use mathlib.Core.Path.{_≡_, refl, sym, ap, _∙_}
+use mathlib.Core.Bool.{Bool, true, false, cond, not, false≢true, and-false}
 use mathlib.Core.List.{List}
 use Prim.Native.Nat.{ℕ, _-_, _≤_, _<_}
 use native.Mathlib.Omega.{arith}
@@ -14,15 +14,15 @@ use Rattle.model.specs.declared.Client.{Client}
 use Rattle.model.specs.declared.CipherClient.{CipherClient}
 use Rattle.model.specs.declared.Client.the-variants.{Verification, Ciphering}
 use Rattle.model.specs.declared.CipherClient.the-variants.{Han}
-use Rattle.model.specs.State.{none, Line}
+use Rattle.model.specs.State.{Association, none, Line}
 use Rattle.model.specs.Calls.{Lent}
-use Rattle.model.proofs.ListLaws.{both, by-test}
+use Rattle.model.proofs.ListLaws.{by-test}
 use Rattle.hdlc.specs.declared.Head.{Head}
 use Rattle.hdlc.specs.declared.Frame.{Frame}
 use Rattle.hdlc.specs.declared.Frame.the-variants.{Unanswered, Rejected, LinkUp, LinkDown, Apdu}
 use Rattle.hdlc.specs.declared.FrameTest.{FrameTest}
 use Rattle.hdlc.specs.declared.Sender.the-variants.{Known, Unknown as Unnamed}
-use Rattle.hdlc.specs.Layout.{byte}
+use Rattle.hdlc.specs.Layout.{ui, byte}
 use Rattle.hdlc.specs.Addresses.{addressOf, senderOf}
 use Rattle.hdlc.specs.Tests.{FirstOf, meterSide, frameTests, numberOf}
 use Rattle.hdlc.specs.Reading.{readFrame}
@@ -46,11 +46,12 @@ use Rattle.acse.specs.Aarq.{readAarq}
 use Rattle.counters.specs.Window.{inWindow}
 use Rattle.envelope.specs.Opening.{Opened, fails, opens, opened}
 use Rattle.protocol.specs.declared.Secrets.{Secrets}
-use Rattle.protocol.specs.Clients.{ciphering, peer, withPeer, linked, associates, counters, held, agreedIn, selectiveIn, lentKeys, dedicatedKeys, isPending, isAssociated, permitted, bitAgreed, isUnknown}
+use Rattle.protocol.specs.Clients.{ciphering, peer, withPeer, linked, associates, counters, agreedIn, selectiveIn, lentKeys, dedicatedKeys, isAssociated, permitted, bitAgreed, isUnknown}
 use Rattle.protocol.specs.Rulings.{Test, none as noTest, frame, linkUpWithInformation, p5HoldsV, linkDownWhileDown, dataWhileDown, unknownTag, tagNotPermitted, bitNotAgreed, envelopeUnopened, outsideWindow, malformedApdu, notTheChallenge, refusalOf, nothing, ua, dm, reject, apdu, Ruling, says, asks, refusedAarq}
 use Rattle.protocol.specs.Decide.{heldByP5, linkUp, linkDown, acceptedPlain, acceptedCiphered, initiated, enclosed, associating, released, wrap, asked, accepted, advanced, askedInside, isChallenge, provesItself, proved, disproved, challenged, answeredChallenge, admitted, challengeEnclosed, requestEnclosed, byTag, conversed, set, plainAction, enclosedSet, unknown, Unreached, carried, heard, secretsOf, ruled}
-use Rattle.protocol.specs.Outcomes.{headIn, apduIn, tagSent, Heard, Timely, Enclosed, get, action, Opens, underGuk, underKey, Brings, Accepted, Outside, Excepted, ExceptedInside, malformedProof, malformedRequest}
+use Rattle.protocol.specs.Outcomes.{headIn, apduIn, tagSent, Heard, Reaches, MaySend, Timely, Opens, byGuk, byKey, Brings, Accepted, Outside, Excepted, ExceptedInside, malformedProof, malformedRequest}
 use Rattle.protocol.specs.Outcomes as out
+use Rattle.protocol.proofs.MayLaws.{may, may-permitted, may-agreed}
 
 pub data Leaf (l : Line) (a : Lent) : Ruling → Type 0 where
   -- 4, 5; and 8, 9
@@ -62,7 +63,7 @@ pub data Leaf (l : Line) (a : Lent) : Ruling → Type 0 where
   goesUp : (c : Client) → Heard a c → heldByP5 c l ≡ false → Leaf l a (says noTest (ua (headIn a)) (withPeer c (linked true (peer c l)) l))
   goesDown : (c : Client) → Heard a c → peer c l .up ≡ true → Leaf l a (says noTest (ua (headIn a)) (withPeer c (linked false (peer c l)) l))
   -- 12, outside an envelope
-  excepts : (x : Test) {c : Client} {e : Exception} → refusalOf x ≡ 12 → Heard a c → peer c l .up ≡ true → Excepted a l c e
+  excepts : (x : Test) {c : Client} {e : Exception} → refusalOf x ≡ 12 → Reaches a l c → Excepted a l c e
       → Leaf l a (says x (apdu (headIn a) (exceptionBytes e)) l)
   -- an AARQ: 11, or an association; and its end
   departs : (c : Client) → Timely a l c Aarq → Leaf l a (refusedAarq c (headIn a) l)
@@ -113,10 +114,10 @@ module _ (l : Line) (a : Lent) where
 
   leaf-released : (c : Client) → Timely a l c Rlrq → Is (released l c h (apduIn a))
   unfolding released
-  leaf-released c t = by-test Is (isRelease (apduIn a)) (λ _. releases c t) (λ e. excepts malformedApdu refl (t .heard) (t .up) (out.malformedRelease t e))
+  leaf-released c t = by-test Is (isRelease (apduIn a)) (λ _. releases c t) (λ e. excepts malformedApdu refl (t .reaches) (out.malformedRelease t e))
 
   leaf-asked : Timely a l Verification (PlainRequest Get) → (r : Reading) → readGet (apduIn a) ≡ r → Is (asked l lent Verification h (apduIn a) r)
-  leaf-asked t Malformed e = excepts malformedApdu refl (t .heard) (t .up) (out.malformedGet t e)
+  leaf-asked t Malformed e = excepts malformedApdu refl (t .reaches) (out.malformedGet t e)
   leaf-asked t (Asks q) e = serves q t e
 
   -- Envelopes of a client that ciphers.
@@ -142,10 +143,10 @@ module _ (l : Line) (a : Lent) where
     leaf-inside k n text o w Malformed e = exceptsInside malformedApdu c refl o w (malformedRequest e)
     leaf-inside k n text o w (Asks q) e = servesInside c k q o w e
 
-    leaf-request : (k : ServiceKind) → Enclosed k → Timely a l (Ciphering c) (DedicatedRequest k) → Is (requestEnclosed l lent c h k (apduIn a))
+    leaf-request : (k : ServiceKind) → Timely a l (Ciphering c) (DedicatedRequest k) → Is (requestEnclosed l lent c h k (apduIn a))
     unfolding requestEnclosed
-    leaf-request k i t =
-        leaf-admitted t (opened (dedicatedKeys (a .ak) c l) (ciphering c l .peer .title) (dedicatedTag k) (apduIn a)) _ (λ n text e. underKey i e)
+    leaf-request k t =
+        leaf-admitted t (opened (dedicatedKeys (a .ak) c l) (ciphering c l .peer .title) (dedicatedTag k) (apduIn a)) _ (λ n text e. byKey e)
         (λ n text o w. leaf-inside k n text o w (readService k text) refl)
 
     leaf-challenged : (n : ℕ) (text : List ℕ) (q : Asked) → readAction text ≡ Asks q → Brings a l c GlobalAction n text → Accepted c n l → Is (challenged l lent c h n text q)
@@ -161,7 +162,7 @@ module _ (l : Line) (a : Lent) where
     leaf-challenge : Timely a l (Ciphering c) GlobalAction → Is (challengeEnclosed l lent c h (apduIn a))
     unfolding challengeEnclosed
     leaf-challenge t =
-        leaf-admitted t (opened (lentKeys lent) (ciphering c l .peer .title) 0xCB (apduIn a)) _ (λ n text e. underGuk e)
+        leaf-admitted t (opened (lentKeys lent) (ciphering c l .peer .title) 0xCB (apduIn a)) _ (λ n text e. byGuk e)
         (λ n text o w. leaf-answered n text o w (readAction text) refl)
 
   leaf-associating : (c : Client) → Timely a l c Aarq → (r : ReadAarq) → Is (associating l lent c h (apduIn a) r)
@@ -172,40 +173,34 @@ module _ (l : Line) (a : Lent) where
   leaf-associating Verification t (Ciphered d e) = departs Verification t
   leaf-associating c t Departs = departs c t
 
-  -- By the tag. What is never permitted has no leaf.
+  -- By the tag. What no client may send has no leaf.
 
-  never : {A : Type 0} (b : Bool) → b && false ≡ true → A
-  never b e = absurd (false≢true (both b false e .1))
+  leaf-tag : {c : Client} {x : Association} {t : Tag} → MaySend c x t → Timely a l c t → Is (byTag l lent c h (apduIn a) t)
+  leaf-tag {c} out.aarq t = leaf-associating c t (readAarq (apduIn a) c (peer c l .title))
+  leaf-tag {c} out.releasePending t = leaf-released c t
+  leaf-tag {c} out.releaseAssociated t = leaf-released c t
+  leaf-tag (out.get e) t = leaf-asked t (readGet (apduIn a)) refl
+  leaf-tag (out.challenge {c}) t = leaf-challenge c t
+  leaf-tag (out.enclosedGet {c} e) t = leaf-request c Get t
+  leaf-tag (out.enclosedAction {c} e) t = leaf-request c Action t
 
-  leaf-tag : (c : Client) (t : Tag) → Timely a l c t → Is (byTag l lent c h (apduIn a) t)
-  leaf-tag c Aarq t = leaf-associating c t (readAarq (apduIn a) c (peer c l .title))
-  leaf-tag c Rlrq t = leaf-released c t
-  leaf-tag Verification (PlainRequest Get) t = leaf-asked t (readGet (apduIn a)) refl
-  leaf-tag (Ciphering c) (PlainRequest Get) t = never (isAssociated (held c l)) (t .permits)
-  leaf-tag c (PlainRequest Set) t = never (isAssociated (peer c l .association)) (t .permits)
-  leaf-tag c (PlainRequest Action) t = never (isAssociated (peer c l .association)) (t .permits)
-  leaf-tag Verification GlobalAction t = never (isPending (l .verification .association)) (t .permits)
-  leaf-tag (Ciphering c) GlobalAction t = leaf-challenge c t
-  leaf-tag Verification (DedicatedRequest Get) t = never (isAssociated (l .verification .association)) (t .permits)
-  leaf-tag (Ciphering c) (DedicatedRequest Get) t = leaf-request c Get get t
-  leaf-tag c (DedicatedRequest Set) t = never (isAssociated (peer c l .association)) (t .permits)
-  leaf-tag Verification (DedicatedRequest Action) t = never (isAssociated (l .verification .association)) (t .permits)
-  leaf-tag (Ciphering c) (DedicatedRequest Action) t = leaf-request c Action action t
-  leaf-tag c Unknown t = absurd (false≢true (t .permits))
-
-  leaf-conversed : (c : Client) → Heard a c → peer c l .up ≡ true → Is (conversed l lent c h (apduIn a) (tagSent a))
+  leaf-conversed : (c : Client) → Reaches a l c → Is (conversed l lent c h (apduIn a) (tagSent a))
   unfolding conversed
-  leaf-conversed c from up =
-      by-test Is (isUnknown (tagSent a)) (λ e. excepts unknownTag refl from up (out.unknown e)) λ u.
-      by-test Is (not (permitted c (peer c l .association) (tagSent a))) (λ p. excepts tagNotPermitted refl from up (out.notPermitted u (not-true _ p))) λ p.
-      by-test Is (not (bitAgreed (agreedIn (peer c l .association)) (tagSent a))) (λ b. excepts bitNotAgreed refl from up (out.notAgreed (not-false _ p) (not-true _ b))) λ b.
-      leaf-tag c (tagSent a) (record { heard = from; up = up; tag = refl; permits = not-false _ p; agreed = not-false _ b })
+  leaf-conversed c r =
+      let x = peer c l .association in
+      by-test Is (isUnknown (tagSent a)) (λ e. excepts unknownTag refl r (out.unknown e)) λ u.
+      by-test Is (not (permitted c x (tagSent a)))
+      (λ p. excepts tagNotPermitted refl r (out.notAllowed u (λ s. false≢true (sym (not-true _ p) ∙ may-permitted s)))) λ p.
+      by-test Is (not (bitAgreed (agreedIn x) (tagSent a)))
+      (λ b. excepts bitNotAgreed refl r (out.notAllowed u (λ s. false≢true (sym (not-true _ b) ∙ may-agreed s)))) λ b.
+      (let m = may c x (tagSent a) (not-false _ p) (not-false _ b) in leaf-tag m (record { reaches = r; tag = refl; may = m }))
 
   -- By the frame.
 
-  leaf-carried : (c : Client) → Heard a c → Is (carried l lent c h (apduIn a))
+  leaf-carried : (c : Client) → Heard a c → byte (a .received) 5 ≡ ui → Is (carried l lent c h (apduIn a))
   unfolding carried
-  leaf-carried c from = by-test Is (peer c l .up) (leaf-conversed c from) (λ _. noLink dataWhileDown from refl)
+  leaf-carried c from u =
+      by-test Is (peer c l .up) (λ up. leaf-conversed c (record { heard = from; carries = u; up = up })) (λ _. noLink dataWhileDown from refl)
 
   -- a known sender's address is its client's
   sender-address : (c : Client) (n : ℕ) → senderOf n ≡ Known c → n ≡ addressOf c
@@ -227,7 +222,7 @@ module _ (l : Line) (a : Lent) where
   leaf-heard (LinkDown c g) told = rw (told .1) (leaf-down c (from-client c (told .0)))
   leaf-heard (Apdu c g start end) told =
       let last : end ≡ length (a .received) - 3 = omega (arith, told .2 .last) in
-      rw (told .1, told .2 .first, last) (leaf-carried c (from-client c (told .0)))
+      rw (told .1, told .2 .first, last) (leaf-carried c (from-client c (told .0)) (told .0 .command))
 
 -- what a frame comes to, whatever the line
 pub leaf : (l : Line) (a : Lent) → Leaf l a (ruled l a)

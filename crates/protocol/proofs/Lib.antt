@@ -1,6 +1,7 @@
 pub mod Lengths
 pub mod Numbers
 pub mod LineLaws
+pub mod MayLaws
 pub mod Lines
 pub mod Examples
 pub mod Claim

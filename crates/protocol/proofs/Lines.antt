@@ -17,6 +17,7 @@ use Rattle.acse.proofs.ServiceLaws.{common-within}
 use Rattle.protocol.specs.Clients.{peer, withPeer, linked, associates, withAssociation, withCounters, held, agreedIn, keyIn, isPending}
 use Rattle.protocol.specs.Rulings.{Ruling, decision}
 use Rattle.protocol.specs.Decide.{acceptedPlain, acceptedCiphered, proved, disproved, decide, p2}
+use Rattle.protocol.proofs.MayLaws.{may-pending}
 use Rattle.protocol.proofs.Leaves as by
 
 -- a client's part of the line is sound
@@ -91,12 +92,12 @@ module _ (l : Line) (a : Lent) (s : lineSound l ≡ true) where
   keeps-leaf (by.noLink t from n) = s
   keeps-leaf (by.goesUp c from p) = links c true
   keeps-leaf (by.goesDown c from up) = links c false
-  keeps-leaf (by.excepts t n from up x) = s
+  keeps-leaf (by.excepts t n r x) = s
   keeps-leaf (by.departs c t) = s
   keeps-leaf (by.associatesPlain proposed t) =
-      stands Verification (associated (common proposed (offered Verification)) []) refl (common-within proposed (offered Verification)) (t .up)
+      stands Verification (associated (common proposed (offered Verification)) []) refl (common-within proposed (offered Verification)) (t .reaches .up)
   keeps-leaf (by.begins c client key proposed n t) =
-      with-counters c _ _ (stands (Ciphering c) (pending (common proposed (offered (Ciphering c))) key client (a .challenge)) refl (common-within proposed (offered (Ciphering c))) (t .up))
+      with-counters c _ _ (stands (Ciphering c) (pending (common proposed (offered (Ciphering c))) key client (a .challenge)) refl (common-within proposed (offered (Ciphering c))) (t .reaches .up))
   keeps-leaf (by.releases c t) = ends c
   keeps-leaf (by.serves q t e) = s
   keeps-leaf (by.unopened t) = s
@@ -104,8 +105,8 @@ module _ (l : Line) (a : Lent) (s : lineSound l ≡ true) where
   keeps-leaf (by.exceptsInside t c n o w x) = with-counters c _ l s
   keeps-leaf (by.proves c invoke n o w) =
       let x = held c l in
-      let p = both (isPending x) true (o .timely .permits) .0 in
-      with-counters c _ _ (stands (Ciphering c) (associated (agreedIn x) (keyIn x)) refl (agreed-stays (Ciphering c) x p (good (Ciphering c) l s .services)) (o .timely .up))
+      let p = may-pending (o .timely .may) in
+      with-counters c _ _ (stands (Ciphering c) (associated (agreedIn x) (keyIn x)) refl (agreed-stays (Ciphering c) x p (good (Ciphering c) l s .services)) (o .timely .reaches .up))
   keeps-leaf (by.disproves c invoke n o w) = with-counters c _ _ (ends (Ciphering c))
   keeps-leaf (by.servesInside c k q o w e) = with-counters c _ _ (with-counters c _ l s)
 

@@ -30,7 +30,7 @@ use Rattle.counters.specs.Window.{accepting}
 use Rattle.protocol.specs.Rulings.{Ruling, decision}
 use Rattle.protocol.specs.Clients.{associates, selectiveIn}
 use Rattle.protocol.specs.Decide.{wrap, acceptedPlain, acceptedCiphered, accepted, advanced, proved, disproved, around, seal, secretsOf, ruled, decide, p2}
-use Rattle.protocol.specs.Outcomes.{outcome, headIn, apduIn, SentBy, Timely, said, Accepted, Brings, Row, refuses, drops, overLength, badFrame, noLink, notAccepted, exception, denial, denialInside, wrongProof, links, tells, grants, grantsInside, RowsHold, FrameNumbers, Silent, Unchanged, Dropping, Dropped, Excepting, plain, inside, LastAccepted, PlainUnchanged, Advanced, counters, association, DeniedBody, DeniedLine}
+use Rattle.protocol.specs.Outcomes.{outcome, headIn, apduIn, SentBy, Timely, said, Accepted, Brings, Row, refuses, drops, overLength, badFrame, noLink, notAccepted, exception, denial, denialInside, wrongProof, links, tells, grants, grantsInside, RowsHold, FrameNumbers, Silent, Unchanged, Dropping, Dropped, Excepting, plain, inside, LastAccepted, PlainUnchanged, Advanced, request, proof, DeniedBody, DeniedLine}
 use Rattle.protocol.proofs.Claim.{p2-numbers-allowed}
 use Rattle.protocol.proofs.Numbers.{FrameNumber, four, five, eight, nine, frame-number}
 use Rattle.protocol.proofs.Leaves as by
@@ -74,7 +74,7 @@ module _ (a : Lent) (m : Model) where
   row-leaf (by.noLink t from e) = rw e noLink
   row-leaf (by.goesUp c from p) = links _
   row-leaf (by.goesDown c from up) = links _
-  row-leaf (by.excepts t n from up x) = rw n (exception (plain from up x))
+  row-leaf (by.excepts t n r x) = rw n (exception (plain r x))
   row-leaf (by.departs c t) = notAccepted c t
   row-leaf (by.associatesPlain proposed t) = tells _ _
   row-leaf (by.begins c client key proposed n t) = tells _ _
@@ -164,7 +164,7 @@ module _ (a : Lent) (m : Model) where
 
   dropped-row : {o : Outcome} → Row a m o → o .refusal ≡ 7 → Dropping a m (o .next)
   dropped-row (refuses n k) e = absurd (early n k (omega arith))
-  dropped-row (drops {c} {t} {n} {asked} o w) e = record { client = c; tag = t; counter = n; text = asked; sender = o .timely .heard .sender; envelope = o; outside = w; drops = refl }
+  dropped-row (drops {c} {t} {n} {asked} o w) e = record { client = c; tag = t; counter = n; text = asked; sender = o .timely .reaches .heard .sender; envelope = o; outside = w; drops = refl }
   dropped-row overLength e = absurd (omega arith)
   dropped-row badFrame e = absurd (omega arith)
   dropped-row noLink e = absurd (omega arith)
@@ -208,11 +208,11 @@ module _ (a : Lent) (m : Model) where
   plain-row badFrame v e = refl
   plain-row noLink v e = refl
   plain-row (notAccepted c t) v e = refl
-  plain-row (exception (plain from up x)) v e = refl
-  plain-row (exception (inside {c} o w x)) v e = one-sender c v (o .timely .heard .sender)
+  plain-row (exception (plain r x)) v e = refl
+  plain-row (exception (inside {c} o w x)) v e = one-sender c v (o .timely .reaches .heard .sender)
   plain-row (denial t d) v e = refl
-  plain-row (denialInside {c} o w d) v e = one-sender c v (o .timely .heard .sender)
-  plain-row (wrongProof invoke {c} o w) v e = one-sender c v (o .timely .heard .sender)
+  plain-row (denialInside {c} o w d) v e = one-sender c v (o .timely .reaches .heard .sender)
+  plain-row (wrongProof invoke {c} o w) v e = one-sender c v (o .timely .reaches .heard .sender)
   plain-row (links after) v e = absurd (false≢true e)
   plain-row (tells bs after) v e = absurd (false≢true e)
   plain-row (grants q t c) v e = absurd (false≢true e)
@@ -225,7 +225,7 @@ module _ (a : Lent) (m : Model) where
   denied-row badFrame e = refl
   denied-row noLink e = refl
   denied-row (notAccepted c t) e = refl
-  denied-row (exception (plain from up x)) e = refl
+  denied-row (exception (plain r x)) e = refl
   denied-row (exception (inside o w x)) e = refl
   denied-row (denial t d) e = refl
   denied-row (denialInside o w d) e = refl
@@ -243,9 +243,9 @@ module _ (a : Lent) (m : Model) where
   advanced-row c noLink h e = absurd (omega arith)
   advanced-row c (notAccepted d t) h e = absurd (omega arith)
   advanced-row c (exception x) h e = absurd (omega arith)
-  advanced-row c (denial t d) h e = one-sender c (t .heard .sender) h
-  advanced-row c (denialInside {c = d} {n = n} o w x) h e = subst (λ (y : CipherClient). Advanced a (m .line) y (advanced d (accepted d n (m .line)))) (same-sender c d h (o .timely .heard .sender)) (counters o w)
-  advanced-row c (wrongProof invoke {c = d} {n} o w) h e = subst (λ (y : CipherClient). Advanced a (m .line) y (advanced d (accepted d n (associates (Ciphering d) none (m .line))))) (same-sender c d h (o .timely .heard .sender)) (association o w)
+  advanced-row c (denial t d) h e = one-sender c (t .reaches .heard .sender) h
+  advanced-row c (denialInside {c = d} {n = n} o w x) h e = subst (λ (y : CipherClient). Advanced a (m .line) y (advanced d (accepted d n (m .line)))) (same-sender c d h (o .timely .reaches .heard .sender)) (request o w)
+  advanced-row c (wrongProof invoke {c = d} {n} o w) h e = subst (λ (y : CipherClient). Advanced a (m .line) y (advanced d (accepted d n (associates (Ciphering d) none (m .line))))) (same-sender c d h (o .timely .reaches .heard .sender)) (proof o w)
   advanced-row c (links after) h e = absurd (omega arith)
   advanced-row c (tells bs after) h e = absurd (omega arith)
   advanced-row c (grants q t v) h e = absurd (omega arith)

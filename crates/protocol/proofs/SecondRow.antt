@@ -37,8 +37,9 @@ use Rattle.hdlc.proofs.RoundTrip.{read-back, reply-back}
 use Rattle.cosem.specs.declared.Wanted.the-variants.{Read}
 use Rattle.cosem.specs.declared.Asked.{Asked}
 use Rattle.cosem.specs.declared.Reading.the-variants.{Asks}
+use Rattle.cosem.specs.declared.Tag.the-variants.{DedicatedRequest}
 use Rattle.cosem.specs.declared.ServiceKind.{ServiceKind}
-use Rattle.cosem.specs.declared.ServiceKind.the-variants.{Get}
+use Rattle.cosem.specs.declared.ServiceKind.the-variants.{Get, Set, Action}
 use Rattle.cosem.specs.Tags.{tagOf, tagIn, dedicatedTag, answerTag}
 use Rattle.cosem.specs.Requests.{optionalPart, readGet, readService, nameIn, requested}
 use Rattle.counters.specs.Advance.{nextCounter, taken}
@@ -53,7 +54,8 @@ use Rattle.meter.proofs.SameSecond.{afterDue, due-step, two-more, two-rows}
 use Rattle.protocol.specs.Clients.{ciphering, counters, selectiveIn, dedicatedKeys, isAssociated}
 use Rattle.protocol.specs.Rulings.{Ruling, asks, decision}
 use Rattle.protocol.specs.Decide.{wrap, accepted, advanced, requestEnclosed, conversed, carried, around, seal, secretsOf, p2}
-use Rattle.protocol.specs.Outcomes.{outcome, headIn, apduOf, Enclosed, get, action, toH}
+use Rattle.protocol.specs.Outcomes.{outcome, headIn, apduOf, enclosedGet, toH}
+use Rattle.protocol.proofs.MayLaws.{may-permitted, may-agreed, may-associated}
 use Rattle.protocol.specs.Lazy.{requestFrame, Asking, NextCounter, twice, bothRows, getProfile, SecondRowRead, SecondRowHappens}
 use Rattle.protocol.proofs.Claim.{p2-stays-sound}
 use Rattle.protocol.proofs.Turns.{read-fits}
@@ -75,34 +77,31 @@ pub tag-sealed : (k : Keys) (title : List ℕ) (tag counter : ℕ) (text : List 
 unfolding sealedEnvelope head
 tag-sealed k title tag counter text = tag-first tag _
 
+tag-dedicated : (k : ServiceKind) → tagOf (dedicatedTag k) ≡ DedicatedRequest k
+unfolding tagOf
+tag-dedicated Get = refl
+tag-dedicated Set = refl
+tag-dedicated Action = refl
+
 module _ (c : CipherClient) (l : Line) (a : Lent) (h : Head) (up : ciphering c l .peer .up ≡ true) (counter : ℕ) (text : List ℕ) (q : Asked) where
-  inside-carried : {k : ServiceKind} → Enclosed k → Asking c a l k counter text → readService k text ≡ Asks q
+  inside-carried : (k : ServiceKind) → Asking c a l k counter text → readService k text ≡ Asks q
       → carried l (secretsOf a) (Ciphering c) h (sealedEnvelope (dedicatedKeys (a .ak) c l) (ciphering c l .peer .title) (dedicatedTag k) counter text)
       ≡ asks (requested (Ciphering c) (selectiveIn (Ciphering c) l) text q) (wrap (a .ak) (Ciphering c) h (dedicatedTag k)) (advanced c (accepted c counter l))
-  unfolding carried conversed requestEnclosed tagOf longestApdu
-  inside-carried get k r =
+  unfolding carried conversed requestEnclosed longestApdu
+  inside-carried k i r =
       rw (
         up,
-        tag-sealed (dedicatedKeys (a .ak) c l) (ciphering c l .peer .title) 0xD0 counter text,
-        k .associated,
-        k .agreed,
-        opens-closed (dedicatedKeys (a .ak) c l) (ciphering c l .peer .title) 0xD0 counter text (k .small) (k .short),
-        k .window,
-        r,
-      )
-  inside-carried action k r =
-      rw (
-        up,
-        tag-sealed (dedicatedKeys (a .ak) c l) (ciphering c l .peer .title) 0xD3 counter text,
-        k .associated,
-        k .agreed,
-        opens-closed (dedicatedKeys (a .ak) c l) (ciphering c l .peer .title) 0xD3 counter text (k .small) (k .short),
-        k .window,
+        tag-sealed (dedicatedKeys (a .ak) c l) (ciphering c l .peer .title) (dedicatedTag k) counter text,
+        tag-dedicated k,
+        may-permitted (i .may),
+        may-agreed (i .may),
+        opens-closed (dedicatedKeys (a .ak) c l) (ciphering c l .peer .title) (dedicatedTag k) counter text (i .small) (i .short),
+        i .window,
         r,
       )
 
 -- what goes out around the body's answer, and the line that holds the counter taken
-sealed-outcome : (c : CipherClient) (a : Lent) (m : Model) (q : Request) (counter : ℕ) {k : ServiceKind} → Enclosed k
+sealed-outcome : (c : CipherClient) (a : Lent) (m : Model) (q : Request) (counter : ℕ) (k : ServiceKind)
     → decided p2 (serve q (wrap (a .ak) (Ciphering c) (headIn a) (dedicatedTag k)) (advanced c (accepted c counter (m .line)))) m
     ≡ record {
       refusal = turned q (m .body) .refusal;
@@ -110,8 +109,7 @@ sealed-outcome : (c : CipherClient) (a : Lent) (m : Model) (q : Request) (counte
       next = record { line = advanced c (accepted c counter (m .line)); body = turned q (m .body) .body };
     }
 unfolding seal around taken accepting
-sealed-outcome Han a m q counter get = refl
-sealed-outcome Han a m q counter action = refl
+sealed-outcome Han a m q counter k = refl
 
 -- its part of the test of soundness
 on-link : (c : CipherClient) (l : Line) → linksStand l ≡ true → onLink (ciphering c l .peer) ≡ true
@@ -119,7 +117,7 @@ on-link Han l e = both (onLink (l .verification)) (onLink (l .han .peer)) e .1
 
 pub next-counter : NextCounter
 unfolding greatestApdu longestReceived
-next-counter c a m kind counter text q s t k r =
+next-counter c a m kind counter text q s k r =
     let l = m .line in
     let env = sealedEnvelope (dedicatedKeys (a .ak) c l) (ciphering c l .peer .title) (dedicatedTag kind) counter text in
     let n = length-envelope (dedicatedKeys (a .ak) c l) (ciphering c l .peer .title) (dedicatedTag kind) counter text in
@@ -127,10 +125,10 @@ next-counter c a m kind counter text q s t k r =
     let short = k .short in
     let link = on-link c l (sound-passes m s associationOnLink) in
     let reached = ruled-request l a (Ciphering c) env (k .received) (omega arith) (omega arith) in
-    let asked = inside-carried c l a (headIn a) (up-of (ciphering c l .peer) link (k .associated)) counter text q t k r in
+    let asked = inside-carried c l a (headIn a) (up-of (ciphering c l .peer) link (may-associated (k .may))) counter text q kind k r in
     outcome-ruled a m (k .enough) s
     ∙ ap (λ (x : Ruling). decided p2 (decision x) m) (reached ∙ asked)
-    ∙ sealed-outcome c a m (requested (Ciphering c) (selectiveIn (Ciphering c) l) text q) counter t
+    ∙ sealed-outcome c a m (requested (Ciphering c) (selectiveIn (Ciphering c) l) text q) counter kind
 
 -- Both rows.
 
@@ -218,7 +216,7 @@ second-row-answer a m t counter invoke s v d k fits =
     let twice-sound : sound n ≡ true = after-sound t (afterDue t m) (after-sound t m s v d) v (still-due t m s v d) in
     let read = profile-read (selectiveIn (Ciphering Han) (m .line)) invoke (n .body) (bothRows t m) (both-rows t m) fits in
     rw (twice-due t m s v d)
-    (next-counter Han a n Get counter (getProfile invoke) (profileAsked invoke) twice-sound get k (profile-asked invoke)
+    (next-counter Han a n Get counter (getProfile invoke) (profileAsked invoke) twice-sound k (profile-asked invoke)
     ∙ ap (λ (x : Turn). record { refusal = x .refusal; sent = toH a (m .line) Han 0xD0 (x .bytes); next = record { line = advanced Han (accepted Han counter (m .line)); body = x .body } }) read)
 
 pub second-row-read : SecondRowRead
@@ -271,8 +269,7 @@ unfolding tagOf within inWindow envelopeLength lengthField greatestApdu longestR
 some-asks =
     record {
       enough = record { room = omega arith; guk = refl; ak = refl; challenge = refl };
-      associated = refl;
-      agreed = refl;
+      may = enclosedGet refl;
       window = refl;
       small = lit< tt;
       short = lit≤ tt;

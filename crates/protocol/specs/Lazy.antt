@@ -32,6 +32,7 @@ use Rattle.hdlc.specs.Reading.{readFrame}
 use Rattle.hdlc.specs.Replies.{uaFrame, dmFrame, apduFrame}
 use Rattle.cosem.specs.declared.Asked.{Asked}
 use Rattle.cosem.specs.declared.Reading.the-variants.{Asks}
+use Rattle.cosem.specs.declared.Tag.the-variants.{DedicatedRequest}
 use Rattle.cosem.specs.declared.ServiceKind.{ServiceKind}
 use Rattle.cosem.specs.declared.ServiceKind.the-variants.{Get}
 use Rattle.cosem.specs.Tags.{dedicatedTag}
@@ -46,11 +47,11 @@ use Rattle.envelope.specs.Layout.{sealedEnvelope}
 use Rattle.envelope.specs.Opening.{opens, opened}
 use Rattle.envelope.specs.Challenge.{proofValue}
 use Rattle.meter.specs.SameSecond.{nextRow}
-use Rattle.protocol.specs.Clients.{ciphering, held, peer, withPeer, linked, associates, counters, withCounters, agreedIn, keyIn, selectiveIn, isAssociated, serviceAgreed}
+use Rattle.protocol.specs.Clients.{ciphering, held, peer, withPeer, linked, associates, counters, withCounters, keyIn, selectiveIn}
 use Rattle.protocol.specs.Rulings.{provedText}
 use Rattle.protocol.specs.Decide.{accepted, advanced, p2}
 use Rattle.protocol.specs.Examples.{linkUpFrame}
-use Rattle.protocol.specs.Outcomes.{outcome, headIn, apduOf, said, Enclosed, Accepted, toH}
+use Rattle.protocol.specs.Outcomes.{outcome, headIn, apduOf, said, MaySend, Accepted, toH}
 
 -- enough is lent: neither "reply room below 779", nor "lent GUK or AK not 16 bytes, or challenge not 8"
 pub record Enough (a : Lent) : Type 0 where
@@ -267,8 +268,7 @@ CipheringLetIn =
 -- an associated client asks this text by this service, in an envelope under the dedicated key, with a counter in the window
 pub record Asking (c : CipherClient) (a : Lent) (l : Line) (k : ServiceKind) (counter : ℕ) (text : List ℕ) : Type 0 where
   pub enough : Enough a
-  pub associated : isAssociated (held c l) ≡ true
-  pub agreed : serviceAgreed (agreedIn (held c l)) k ≡ true
+  pub may : MaySend (Ciphering c) (held c l) (DedicatedRequest k)
   pub window : Accepted c counter l
   pub small : counter < 256 ^ 4
   pub short : envelopeLength (length text) ≤ greatestApdu longestReceived
@@ -279,7 +279,6 @@ abbrev pub NextCounter : Type 0
 NextCounter =
     (c : CipherClient) (a : Lent) (m : Model) (k : ServiceKind) (counter : ℕ) (text : List ℕ) (q : Asked)
     → sound m ≡ true
-    → Enclosed k
     → Asking c a (m .line) k counter text
     → readService k text ≡ Asks q
     → outcome a m

@@ -1,7 +1,7 @@
 -- Document 01's table "What goes out", for frame calls: its rows, and its cells one by one, of every meter, sound or not, and
 -- whatever is lent. Of its columns these are the number, what goes out and what the meter then holds; "Met when" is what `Decide`
--- itself says, and a statement of its own for 7 (`Dropped`) and for 12 (`Excepted`), of which it also tells which exception goes
--- out. `Answers` alone asks something of the meter: that its own title, which an AARE holds, has its 8 bytes; a longer one would
+-- itself says, and a statement of its own for 7 (`Dropped`) and for 12 (`LastAccepted`, by `Excepting`), of which it also tells
+-- which exception goes out; what a client may send when is told here apart from `Decide` (`MaySend`). `Answers` alone asks something of the meter: that its own title, which an AARE holds, has its 8 bytes; a longer one would
 -- not fit the frame. Proved in proofs/Outcomes and proofs/Framed, by proofs/Leaves.
 use mathlib.Core.Path.{_≡_}
 use mathlib.Core.Bool.{true, false}
@@ -14,7 +14,8 @@ use Rattle.model.specs.declared.CipherClient.{CipherClient}
 use Rattle.model.specs.declared.Client.the-variants.{Verification, Ciphering}
 use Rattle.model.specs.Limits.{longestSent, replyRoom}
 use Rattle.model.specs.Periods.{listed}
-use Rattle.model.specs.State.{none, Line, Model, withLine}
+use Rattle.model.specs.State.{Association, none, pending, associated, Line, Model, withLine}
+use Rattle.model.specs.Services.{within, getService, actionService}
 use Rattle.model.specs.Objects.{Request, denied, getAnswer, actionAnswer, turned}
 use Rattle.model.specs.Calls.{Lent, frame, Outcome, refused, step}
 use Rattle.model.specs.Archive.{numbers}
@@ -38,7 +39,7 @@ use Rattle.counters.specs.Advance.{nextCounter}
 use Rattle.counters.specs.Window.{inWindow}
 use Rattle.envelope.specs.Layout.{sealedEnvelope}
 use Rattle.envelope.specs.Opening.{opens, opened}
-use Rattle.protocol.specs.Clients.{ciphering, peer, counters as countersOf, associates, agreedIn, lentKeys, dedicatedKeys, permitted, bitAgreed, isUnknown}
+use Rattle.protocol.specs.Clients.{ciphering, peer, counters, associates, lentKeys, dedicatedKeys, isUnknown}
 use Rattle.protocol.specs.Decide.{accepted, advanced, isChallenge, secretsOf, p2}
 
 -- what the call comes to
@@ -71,25 +72,35 @@ pub record Heard (a : Lent) (c : Client) : Type 0 where
   pub passes : AllPass meterSide (a .received) frameTests
   pub sender : SentBy c a
 
--- an APDU with this tag, on a link that is up, where the tag is permitted and its bit agreed
-pub record Timely (a : Lent) (l : Line) (c : Client) (t : Tag) : Type 0 where
+-- an APDU of the client, on a link that is up
+pub record Reaches (a : Lent) (l : Line) (c : Client) : Type 0 where
   pub heard : Heard a c
+  pub carries : byte (a .received) 5 ≡ ui
   pub up : peer c l .up ≡ true
-  pub tag : tagSent a ≡ t
-  pub permits : permitted c (peer c l .association) t ≡ true
-  pub agreed : bitAgreed (agreedIn (peer c l .association)) t ≡ true
 
--- the services of requests in envelopes: "GET (V: C0, H: D0) and for H ACTION (D3)"
-pub data Enclosed : ServiceKind → Type 0 where
-  get : Enclosed Get
-  action : Enclosed Action
+-- what a client may send: "AARQ (60) in none, RLRQ (62) in the others; when associated GET (V: C0, H: D0) and for H ACTION (D3);
+-- while pending CB"; GET and ACTION with their agreed bit
+pub data MaySend : Client → Association → Tag → Type 0 where
+  aarq : {c : Client} → MaySend c none Aarq
+  releasePending : {c : Client} {agreed key client meter : List ℕ} → MaySend c (pending agreed key client meter) Rlrq
+  releaseAssociated : {c : Client} {agreed key : List ℕ} → MaySend c (associated agreed key) Rlrq
+  get : {agreed key : List ℕ} → within getService agreed ≡ true → MaySend Verification (associated agreed key) (PlainRequest Get)
+  challenge : {c : CipherClient} {agreed key client meter : List ℕ} → MaySend (Ciphering c) (pending agreed key client meter) GlobalAction
+  enclosedGet : {c : CipherClient} {agreed key : List ℕ} → within getService agreed ≡ true → MaySend (Ciphering c) (associated agreed key) (DedicatedRequest Get)
+  enclosedAction : {c : CipherClient} {agreed key : List ℕ} → within actionService agreed ≡ true → MaySend (Ciphering c) (associated agreed key) (DedicatedRequest Action)
+
+-- an APDU with this tag that the client may send
+pub record Timely (a : Lent) (l : Line) (c : Client) (t : Tag) : Type 0 where
+  pub reaches : Reaches a l c
+  pub tag : tagSent a ≡ t
+  pub may : MaySend c (peer c l .association) t
 
 -- the APDU is an envelope of the client that opens, with this tag, counter and text: a proof under GUK, a request under the
 -- dedicated key
 pub data Opens (a : Lent) (l : Line) (c : CipherClient) : Tag → (counter : ℕ) → (text : List ℕ) → Type 0 where
-  underGuk : {counter : ℕ} {text : List ℕ} → opened (lentKeys (secretsOf a)) (ciphering c l .peer .title) 0xCB (apduIn a) ≡ opens counter text
+  byGuk : {counter : ℕ} {text : List ℕ} → opened (lentKeys (secretsOf a)) (ciphering c l .peer .title) 0xCB (apduIn a) ≡ opens counter text
       → Opens a l c GlobalAction counter text
-  underKey : {k : ServiceKind} {counter : ℕ} {text : List ℕ} → Enclosed k
+  byKey : {k : ServiceKind} {counter : ℕ} {text : List ℕ}
       → opened (dedicatedKeys (a .ak) c l) (ciphering c l .peer .title) (dedicatedTag k) (apduIn a) ≡ opens counter text
       → Opens a l c (DedicatedRequest k) counter text
 
@@ -100,11 +111,11 @@ pub record Brings (a : Lent) (l : Line) (c : CipherClient) (t : Tag) (counter : 
 
 -- a counter of the client that is accepted
 abbrev pub Accepted : CipherClient → ℕ → Line → Type 0
-Accepted c n l = inWindow (countersOf c l .accepted) n ≡ true
+Accepted c n l = inWindow (counters c l .accepted) n ≡ true
 
 -- and one that lies outside the window
 abbrev pub Outside : CipherClient → ℕ → Line → Type 0
-Outside c n l = inWindow (countersOf c l .accepted) n ≡ false
+Outside c n l = inWindow (counters c l .accepted) n ≡ false
 
 -- Exceptions: which goes out, and when. Each test stands here with those before it passed.
 
@@ -112,9 +123,7 @@ pub data Excepted (a : Lent) (l : Line) (c : Client) : Exception → Type 0 wher
   -- "a tag other than 60, 62, C0, C1, C3, CB, D0, D1, D3 is refusal 12 with D8 02 02"
   unknown : isUnknown (tagSent a) ≡ true → Excepted a l c ServiceUnknown
   -- "a tag not permitted here, or GET or ACTION without its agreed bit, D8 01 01"
-  notPermitted : isUnknown (tagSent a) ≡ false → permitted c (peer c l .association) (tagSent a) ≡ false → Excepted a l c ServiceNotAllowed
-  notAgreed : permitted c (peer c l .association) (tagSent a) ≡ true → bitAgreed (agreedIn (peer c l .association)) (tagSent a) ≡ false
-      → Excepted a l c ServiceNotAllowed
+  notAllowed : isUnknown (tagSent a) ≡ false → (MaySend c (peer c l .association) (tagSent a) → ⊥) → Excepted a l c ServiceNotAllowed
   -- "then a malformed APDU other than an AARQ, D8 02 02"
   malformedRelease : Timely a l c Rlrq → isRelease (apduIn a) ≡ false → Excepted a l c ServiceUnknown
   malformedGet : Timely a l c (PlainRequest Get) → readGet (apduIn a) ≡ Malformed → Excepted a l c ServiceUnknown
@@ -128,7 +137,7 @@ pub data ExceptedInside (c : CipherClient) (text : List ℕ) : Tag → Exception
 
 -- 12: what goes out, and the meter afterwards: "an opened envelope's counter becomes the last accepted", and nothing else
 pub data Excepting (a : Lent) (m : Model) : List ℕ → Model → Type 0 where
-  plain : {c : Client} {e : Exception} → Heard a c → peer c (m .line) .up ≡ true → Excepted a (m .line) c e
+  plain : {c : Client} {e : Exception} → Reaches a (m .line) c → Excepted a (m .line) c e
       → Excepting a m (apduFrame (headIn a) (exceptionBytes e)) m
   inside : {c : CipherClient} {t : Tag} {n : ℕ} {text : List ℕ} {e : Exception} → Brings a (m .line) c t n text → Accepted c n (m .line) → ExceptedInside c text t e
       → Excepting a m (apduFrame (headIn a) (exceptionBytes e)) (withLine (accepted c n (m .line)) m)
@@ -151,7 +160,7 @@ toV a text = apduFrame (headIn a) text
 
 abbrev pub toH : Lent → Line → CipherClient → (tag : ℕ) → List ℕ → List ℕ
 toH a l c tag text =
-    apduFrame (headIn a) (sealedEnvelope (dedicatedKeys (a .ak) c l) (l .title) (answerTag tag) (nextCounter (countersOf c l .sent)) text)
+    apduFrame (headIn a) (sealedEnvelope (dedicatedKeys (a .ak) c l) (l .title) (answerTag tag) (nextCounter (counters c l .sent)) text)
 
 pub data Row (a : Lent) (m : Model) : Outcome → Type 0 where
   -- 1 to 6: both cells are empty
@@ -176,7 +185,7 @@ pub data Row (a : Lent) (m : Model) : Outcome → Type 0 where
   wrongProof : (invoke : ℕ) {c : CipherClient} {n : ℕ} {asked : List ℕ} → Brings a (m .line) c GlobalAction n asked → Accepted c n (m .line)
       → Row a m (said 13
       (apduFrame (headIn a)
-      (sealedEnvelope (lentKeys (secretsOf a)) (m .line .title) 0xCF (nextCounter (countersOf c (m .line) .sent)) (actionAnswer invoke (denied 250))))
+      (sealedEnvelope (lentKeys (secretsOf a)) (m .line .title) 0xCF (nextCounter (counters c (m .line) .sent)) (actionAnswer invoke (denied 250))))
       (advanced c (accepted c n (associates (Ciphering c) none (m .line)))) m)
   -- "an accepted frame answers 0": UA or an APDU of the line, with the line afterwards; or the body's answer to a request
   links : (after : Line) → Row a m (said 0 (uaFrame (headIn a)) after m)
@@ -244,8 +253,8 @@ PlainUnchanged =
 -- 13: "for H, counters advance; a wrong proof ends the association"; the last accepted is the counter of the envelope that
 -- opened, a request's or a proof's; the body is as it was
 pub data Advanced (a : Lent) (l : Line) (c : CipherClient) : Line → Type 0 where
-  counters : {k : ServiceKind} {n : ℕ} {text : List ℕ} → Brings a l c (DedicatedRequest k) n text → Accepted c n l → Advanced a l c (advanced c (accepted c n l))
-  association : {n : ℕ} {text : List ℕ} → Brings a l c GlobalAction n text → Accepted c n l → Advanced a l c (advanced c (accepted c n (associates (Ciphering c) none l)))
+  request : {k : ServiceKind} {n : ℕ} {text : List ℕ} → Brings a l c (DedicatedRequest k) n text → Accepted c n l → Advanced a l c (advanced c (accepted c n l))
+  proof : {n : ℕ} {text : List ℕ} → Brings a l c GlobalAction n text → Accepted c n l → Advanced a l c (advanced c (accepted c n (associates (Ciphering c) none l)))
 
 abbrev pub DeniedBody : Type 0
 DeniedBody = (a : Lent) (m : Model) → outcome a m .refusal ≡ 13 → outcome a m .next .body ≡ m .body
