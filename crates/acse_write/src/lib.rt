@@ -3,10 +3,9 @@
 use acse::context_name;
 use acse::mechanism_name;
 use model::Client;
-ghost use mathlib.Core.Path.{_≡_};
 ghost use Prim.Native.Nat.{_+_, _≤_};
 ghost use lib.ListN.{length};
-ghost use Rattle.wire.specs.Wrote.{Wrote, WroteArray};
+ghost use Rattle.wire.specs.Wrote.{WroteArray};
 ghost use Rattle.acse.specs.Initiate.{initiateResponse};
 ghost use Rattle.acse.specs.Aare.{cipheredAareHead, mechanismField, outcome, plainAare, rejectedAare, titleField};
 

@@ -1,16 +1,16 @@
 -- From what a request comes to and the bytes that were written, to the model's Turn.
-use mathlib.Core.Path.{_≡_, refl, sym, ap, _∙_}
+use mathlib.Core.Path.{_≡_, refl, sym, _∙_}
 use mathlib.Core.List.{List, [], _∷_}
-use Prim.Native.Nat.{ℕ, _+_, _≤_}
+use Prim.Native.Nat.{ℕ, _≤_}
 use native.Mathlib.Omega.{arith}
 use lib.ListN.{length}
 use Rattle.wire.specs.Wrote.{Wrote}
-use Rattle.model.specs.Limits.{longestSent, dataRoom, textRoom}
+use Rattle.model.specs.Limits.{longestSent, dataRoom}
 use Rattle.model.specs.State.{Body}
 use Rattle.model.specs.Objects.{Meaning, known, unknown, Selection, Parameter, get, action, Request, granted, denied, attributeRead, methodInvoked, afterAction, answered}
 use Rattle.model.proofs.LimitFacts.{data-room, text-room}
 use Rattle.body.specs.View.{bodyOf}
-use Rattle.answers.specs.declared.Written.{Written}
+use Rattle.answers.specs.declared.Turned.{Turned}
 use Rattle.answers.specs.Promise.{Turns}
 
 -- where an answer is denied the body is as it was
@@ -18,7 +18,7 @@ after-denied : (w : Meaning) (b : Body) (c : ℕ) → b ≡ afterAction w b (den
 after-denied unknown b c = refl
 after-denied (known o) b c = refl
 
-module _ (q : Request) (b : Body) (w : Meaning) {l m : List ℕ} {at : ℕ} (r : Written) where
+module _ (q : Request) (b : Body) (w : Meaning) {l m : List ℕ} {at : ℕ} (r : Turned) where
   module _ (a : ℕ) (s : Selection) (e : bodyOf (r .body) ≡ b) where
     pub read-granted : (d : List ℕ) → granted d ≡ attributeRead q a s b w → length d ≤ dataRoom longestSent → r .refusal ≡ 0
         → Wrote l at m (r .next) (0xC4 ∷ 0x01 ∷ q .invoke ∷ 0x00 ∷ d) → Turns (answered q b w (get a s)) l at m r

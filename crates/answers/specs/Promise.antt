@@ -6,10 +6,10 @@ use Rattle.wire.specs.Wrote.{Wrote}
 use Rattle.model.specs.Limits.{longestSent, textRoom}
 use Rattle.model.specs.Objects.{Turn}
 use Rattle.body.specs.View.{bodyOf}
-use Rattle.answers.specs.declared.Written.{Written}
+use Rattle.answers.specs.declared.Turned.{Turned}
 
 -- its number, its bytes from place at on and nothing else of the buffer, no longer than a text may be, and its body
-pub record Turns (t : Turn) (l : List ℕ) (at : ℕ) (m : List ℕ) (r : Written) : Type 0 where
+pub record Turns (t : Turn) (l : List ℕ) (at : ℕ) (m : List ℕ) (r : Turned) : Type 0 where
   pub refusal : r .refusal ≡ t .refusal
   pub wrote : Wrote l at m (r .next) (t .bytes)
   pub short : r .next ≤ at + textRoom longestSent

@@ -27,7 +27,7 @@ ghost use Rattle.answers.specs.Promise.{Turns};
 mod granted;
 
 // The number of the refusal, or 0, the place after the answer, and the body.
-pub struct Written {
+pub struct Turned {
     pub refusal: u8,
     pub next: usize,
     pub body: BodyState,
@@ -42,7 +42,7 @@ pub fn answer(
     asked: Asked,
     out: &mut [u8],
     at: usize,
-) -> Written
+) -> Turned
     requires { ⌜ (bodySound (bodyOf body) ≡ true) × (at + textRoom longestSent ≤ length (now out)) ⌝ }
     ensures { λ r. ⌜ Turns (turned (requested client selective (now (apdu .entry)) asked) (bodyOf body)) (now (out .entry)) at (now (out .exit)) r ⌝ }
 {
@@ -117,7 +117,7 @@ fn answer_get(
     apdu: &[u8],
     out: &mut [u8],
     at: usize,
-) -> Written
+) -> Turned
     requires { ⌜ (bodySound (bodyOf body) ≡ true) × (at + textRoom longestSent ≤ length (now out)) ⌝ }
     ensures { λ r. ⌜ Turns (answered (requestAs query (get attribute (selectionIn (now (apdu .entry)) selector))) (bodyOf body) (foundAs (query .name) found) (get attribute (selectionIn (now (apdu .entry)) selector))) (now (out .entry)) at (now (out .exit)) r ⌝ }
 {
@@ -127,7 +127,7 @@ fn answer_get(
             let a = put_head(out, at, 0xC4, query.invoke, 0x00);
             let name = query.name;
             let b = put_data(out, a, d, name, body);
-            Written {
+            Turned {
                 refusal: 0,
                 next: b,
                 body,
@@ -136,7 +136,7 @@ fn answer_get(
         Outcome::Denied(code) => {
             let a = put_head(out, at, 0xC4, query.invoke, 0x01);
             let b = wire_write::put(out, a, code);
-            Written {
+            Turned {
                 refusal: 13,
                 next: b,
                 body,
@@ -154,7 +154,7 @@ fn answer_action(
     apdu: &[u8],
     out: &mut [u8],
     at: usize,
-) -> Written
+) -> Turned
     requires { ⌜ (bodySound (bodyOf body) ≡ true) × (at + textRoom longestSent ≤ length (now out)) ⌝ }
     ensures { λ r. ⌜ Turns (answered (requestAs query (action method (parameterIn (now (apdu .entry)) argument))) (bodyOf body) (foundAs (query .name) found) (action method (parameterIn (now (apdu .entry)) argument))) (now (out .entry)) at (now (out .exit)) r ⌝ }
 {
@@ -164,7 +164,7 @@ fn answer_action(
             let a = put_head(out, at, 0xC7, query.invoke, 0x00);
             let b = wire_write::put(out, a, 0x00);
             let next = results::after_method(body, found);
-            Written {
+            Turned {
                 refusal: 0,
                 next: b,
                 body: next,
@@ -173,7 +173,7 @@ fn answer_action(
         Outcome::Denied(code) => {
             let a = put_head(out, at, 0xC7, query.invoke, code);
             let b = wire_write::put(out, a, 0x00);
-            Written {
+            Turned {
                 refusal: 13,
                 next: b,
                 body,

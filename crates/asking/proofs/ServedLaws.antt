@@ -21,7 +21,7 @@ use Rattle.cosem.specs.Tags.{answerTag}
 use Rattle.material.specs.Material.{Keys}
 use Rattle.envelope.specs.Layout.{sealedEnvelope}
 use Rattle.envelope.proofs.CloseLaws.{envelope-size, length-envelope}
-use Rattle.answers.specs.declared.Written.{Written}
+use Rattle.answers.specs.declared.Turned.{Turned}
 use Rattle.answers.specs.Promise.{Turns}
 use Rattle.line.specs.declared.LineState.{LineState}
 use Rattle.line.specs.View.{lineOf}
@@ -83,7 +83,7 @@ turned-some q b = go (q .service)
     go (action k v) = acted (q .invoke) (methodInvoked q k v (meaning (q .client) (q .name) (b .store .registers)))
 
 -- The body's answer that was written at a place: how long it is, and that it goes out.
-module _ (q : Request) (b : Body) (at : ℕ) {l m : List ℕ} {r : Written} (t : Turns (turned q b) l at m r) where
+module _ (q : Request) (b : Body) (at : ℕ) {l m : List ℕ} {r : Turned} (t : Turns (turned q b) l at m r) where
   pub answer-size : r .next - at ≡ length (turned q b .bytes)
   answer-size = omega (arith, t .wrote .next)
 

@@ -35,14 +35,14 @@ pub pending-line : (c : CipherClient) (n : Counters) (l r : LineState) (q p : Pa
 unfolding lineOf
 pending-line Han n l r q p agreed key theirs ours e f g = rw (g, f, e)
 
-pub answered-line : (c : CipherClient) (n : Counters) (l r : LineState) (q p : Party) (agreed key : List ℕ) → q ≡ partyOf (Ciphering c) l
+pub proven-line : (c : CipherClient) (n : Counters) (l r : LineState) (q p : Party) (agreed key : List ℕ) → q ≡ partyOf (Ciphering c) l
     → agreed ≡ agreedIn (held c (lineOf l))
     → p ≡ record { title = q .title; up = q .up; phase = Associated; agreed = agreed }
     → key ≡ keyIn (held c (lineOf l))
     → r ≡ withCipher c (record { party = p; key = key; client = replicate 8 0; meter = replicate 8 0; counters = n }) l
     → Proven c n (lineOf l) r
 unfolding lineOf
-answered-line Han n l r q p agreed key e a f k g = rw (g, k, f, a, e) (record { view = refl; wiped = record { client = refl; meter = refl } })
+proven-line Han n l r q p agreed key e a f k g = rw (g, k, f, a, e) (record { view = refl; wiped = record { client = refl; meter = refl } })
 
 pub counted-line : (c : CipherClient) (n : Counters) (l r : LineState) (h : CipherParty) → h ≡ cipherOf c l
     → r ≡ withCipher c (record { party = h .party; key = h .key; client = h .client; meter = h .meter; counters = n }) l

@@ -215,7 +215,6 @@ fn accept_ciphered(
     let agreed = acse::agreed(asking, proposed);
     let ours = secrets.challenge;
     let after = association::pending(line, client, agreed, key, challenge, ours, next.counters);
-    let number = next.number;
     let count = replies::send_accepted_ciphered(
         out,
         head,
@@ -224,7 +223,7 @@ fn accept_ciphered(
         title,
         ours,
         agreed,
-        number,
+        next.number,
     );
     Told {
         refusal: 0,

@@ -54,9 +54,9 @@ pub fn read_image(s: &[u8]) -> ImageRead
             status: Status::Whole,
             meter: meter_in(s),
         },
-        Status::WrongLength => refused(Status::WrongLength),
-        Status::WrongVersion => refused(Status::WrongVersion),
-        Status::NoImage => refused(Status::NoImage),
+        Status::WrongLength => not_read(Status::WrongLength),
+        Status::WrongVersion => not_read(Status::WrongVersion),
+        Status::NoImage => not_read(Status::NoImage),
     }
 }
 
@@ -98,7 +98,7 @@ pub fn meter_in(s: &[u8]) -> Meter
     read::meter_at(s, 1)
 }
 
-fn refused(status: Status) -> ImageRead
+fn not_read(status: Status) -> ImageRead
     ensures { λ r. ⌜ (r .status ≡ status) × (r .meter ≡ blankMeter) ⌝ }
 {
     let meter = blank_meter();

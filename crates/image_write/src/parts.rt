@@ -13,7 +13,6 @@ use store::Columns;
 use store::Registers;
 use store::Row;
 use store::Rows;
-ghost use mathlib.Core.Path.{_≡_};
 ghost use Prim.Native.Nat.{_+_, _≤_};
 ghost use lib.ListN.{length};
 ghost use Rattle.wire.specs.Wrote.{WroteArray};

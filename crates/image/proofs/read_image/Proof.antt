@@ -14,17 +14,17 @@ returns c =
 returns-2 : tie.Need-returns-2
 returns-2 c =
     let at-told = c .before in
-    refused-read _ WrongLength (sym (at-told .before .before .status-of .ensures) ∙ at-told .enum-told2 .given .1) refl (c .refused .ensures)
+    refused-read _ WrongLength (sym (at-told .before .before .status-of .ensures) ∙ at-told .enum-told2 .given .1) refl (c .not-read .ensures)
 
 returns-3 : tie.Need-returns-3
 returns-3 c =
     let at-told = c .before in
-    refused-read _ WrongVersion (sym (at-told .before .before .status-of .ensures) ∙ at-told .enum-told3 .given .1) refl (c .refused2 .ensures)
+    refused-read _ WrongVersion (sym (at-told .before .before .status-of .ensures) ∙ at-told .enum-told3 .given .1) refl (c .not-read2 .ensures)
 
 returns-4 : tie.Need-returns-4
 returns-4 c =
     let at-told = c .before in
-    refused-read _ NoImage (sym (at-told .before .before .status-of .ensures) ∙ at-told .enum-told4 .given .1) refl (c .refused3 .ensures)
+    refused-read _ NoImage (sym (at-told .before .before .status-of .ensures) ∙ at-told .enum-told4 .given .1) refl (c .not-read3 .ensures)
 
 pub read-image-spec : {M : Type 1} → statement M
 read-image-spec =
