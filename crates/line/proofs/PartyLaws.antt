@@ -9,18 +9,18 @@ use Rattle.line.specs.declared.Phase.{Phase}
 use Rattle.line.specs.declared.Party.{Party}
 use Rattle.line.specs.declared.CipherParty.{CipherParty}
 use Rattle.line.specs.declared.LineState.{LineState}
-use Rattle.line.specs.Parties.{partyOf, keyOf, clientOf, meterOf}
+use Rattle.line.specs.Parties.{partyOf, partyKey, partyClient, partyMeter}
 use Rattle.line.specs.View.{associationOf, cipherOf, lineOf, peerOf}
 
 -- the client, by a party that is its own
-pub peer-of : (c : Client) (l : LineState) (p : Party) → p ≡ partyOf c l → peerOf p (keyOf c l) (clientOf c l) (meterOf c l) ≡ peer c (lineOf l)
+pub peer-of : (c : Client) (l : LineState) (p : Party) → p ≡ partyOf c l → peerOf p (partyKey c l) (partyClient c l) (partyMeter c l) ≡ peer c (lineOf l)
 unfolding lineOf
 peer-of Verification l p e = rw e
 peer-of (Ciphering Han) l p e = rw e
 
 -- its association, by the phase that the party has
 pub association-of : (c : Client) (l : LineState) (p : Party) (x : Phase) → p ≡ partyOf c l → p .phase ≡ x
-    → associationOf x (p .agreed) (keyOf c l) (clientOf c l) (meterOf c l) ≡ peer c (lineOf l) .association
+    → associationOf x (p .agreed) (partyKey c l) (partyClient c l) (partyMeter c l) ≡ peer c (lineOf l) .association
 unfolding lineOf
 association-of Verification l p x e f = rw (← f, e)
 association-of (Ciphering Han) l p x e f = rw (← f, e)

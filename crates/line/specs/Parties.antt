@@ -14,17 +14,17 @@ abbrev pub partyOf : Client → LineState → Party
 partyOf Verification l = l .verification
 partyOf (Ciphering c) l = cipherOf c l .party
 
-abbrev pub keyOf : Client → LineState → List ℕ
-keyOf Verification l = []
-keyOf (Ciphering c) l = cipherOf c l .key
+abbrev pub partyKey : Client → LineState → List ℕ
+partyKey Verification l = []
+partyKey (Ciphering c) l = cipherOf c l .key
 
-abbrev pub clientOf : Client → LineState → List ℕ
-clientOf Verification l = []
-clientOf (Ciphering c) l = cipherOf c l .client
+abbrev pub partyClient : Client → LineState → List ℕ
+partyClient Verification l = []
+partyClient (Ciphering c) l = cipherOf c l .client
 
-abbrev pub meterOf : Client → LineState → List ℕ
-meterOf Verification l = []
-meterOf (Ciphering c) l = cipherOf c l .meter
+abbrev pub partyMeter : Client → LineState → List ℕ
+partyMeter Verification l = []
+partyMeter (Ciphering c) l = cipherOf c l .meter
 
 -- the line with this part of a client that ciphers
 abbrev pub withCipher : CipherClient → CipherParty → LineState → LineState

@@ -3,7 +3,7 @@
 -- (proofs/Outcomes), what goes out is a frame (proofs/Framed). A branch more in specs/Decide is one leaf here and one clause in
 -- each of them. The rows of specs/Outcomes are a data type of their own, since they speak of whole calls, in the table's words.
 use mathlib.Core.Path.{_≡_, refl, sym, ap, _∙_}
-use mathlib.Core.Bool.{Bool, true, false, cond, not, false≢true, and-false}
+use mathlib.Core.Bool.{Bool, true, false, cond, not, false≢true}
 use mathlib.Core.List.{List}
 use Prim.Native.Nat.{ℕ, _-_, _≤_, _<_}
 use native.Mathlib.Omega.{arith}
@@ -28,11 +28,12 @@ use Rattle.hdlc.specs.Tests.{FirstOf, meterSide, frameTests, numberOf}
 use Rattle.hdlc.specs.Reading.{readFrame}
 use Rattle.hdlc.proofs.ReadingLaws.{AcceptedFrame, Told, read-told}
 use Rattle.cosem.specs.declared.Tag.{Tag}
-use Rattle.cosem.specs.declared.Tag.the-variants.{Aarq, Rlrq, PlainRequest, GlobalAction, DedicatedRequest, Unknown}
+use Rattle.cosem.specs.declared.Tag.the-variants.{Aarq, Rlrq, PlainRequest, GlobalAction, DedicatedRequest}
 use Rattle.cosem.specs.declared.ServiceKind.{ServiceKind}
-use Rattle.cosem.specs.declared.ServiceKind.the-variants.{Get, Set, Action}
+use Rattle.cosem.specs.declared.ServiceKind.the-variants.{Get, Action}
 use Rattle.cosem.specs.declared.Asked.{Asked}
 use Rattle.cosem.specs.declared.Exception.{Exception}
+use Rattle.cosem.specs.declared.Exception.the-variants.{ServiceNotAllowed, ServiceUnknown}
 use Rattle.cosem.specs.declared.Reading.{Reading}
 use Rattle.cosem.specs.declared.Reading.the-variants.{Asks, Malformed}
 use Rattle.cosem.specs.Tags.{dedicatedTag, isRelease, releaseResponse, exceptionBytes}
@@ -46,10 +47,10 @@ use Rattle.acse.specs.Aarq.{readAarq}
 use Rattle.counters.specs.Window.{inWindow}
 use Rattle.envelope.specs.Opening.{Opened, fails, opens, opened}
 use Rattle.protocol.specs.declared.Secrets.{Secrets}
-use Rattle.protocol.specs.Clients.{ciphering, peer, withPeer, linked, associates, counters, agreedIn, selectiveIn, lentKeys, dedicatedKeys, isAssociated, permitted, bitAgreed, isUnknown}
+use Rattle.protocol.specs.Clients.{ciphering, peer, withPeer, linked, associates, counters, agreedIn, selectiveIn, lentKeys, dedicatedKeys, permitted, bitAgreed, isUnknown}
 use Rattle.protocol.specs.Rulings.{Test, none as noTest, frame, linkUpWithInformation, p5HoldsV, linkDownWhileDown, dataWhileDown, unknownTag, tagNotPermitted, bitNotAgreed, envelopeUnopened, outsideWindow, malformedApdu, notTheChallenge, refusalOf, nothing, ua, dm, reject, apdu, Ruling, says, asks, refusedAarq}
-use Rattle.protocol.specs.Decide.{heldByP5, linkUp, linkDown, acceptedPlain, acceptedCiphered, initiated, enclosed, associating, released, wrap, asked, accepted, advanced, askedInside, isChallenge, provesItself, proved, disproved, challenged, answeredChallenge, admitted, challengeEnclosed, requestEnclosed, byTag, conversed, set, plainAction, enclosedSet, unknown, Unreached, carried, heard, secretsOf, ruled}
-use Rattle.protocol.specs.Outcomes.{headIn, apduIn, tagSent, Heard, Reaches, MaySend, Timely, Opens, byGuk, byKey, Brings, Accepted, Outside, Excepted, ExceptedInside, malformedProof, malformedRequest}
+use Rattle.protocol.specs.Decide.{heldByP5, linkUp, linkDown, acceptedPlain, acceptedCiphered, initiated, enclosed, associating, released, wrap, asked, accepted, advanced, askedInside, isChallenge, provesItself, proved, disproved, challenged, answeredChallenge, admitted, challengeEnclosed, requestEnclosed, byTag, conversed, carried, heard, secretsOf, ruled}
+use Rattle.protocol.specs.Outcomes.{headIn, apduIn, tagSent, Heard, Reaches, MaySend, Unreached, Timely, Opens, byGuk, byKey, Brings, Accepted, Outside, Excepted, ExceptedInside, malformedProof, malformedRequest}
 use Rattle.protocol.specs.Outcomes as out
 use Rattle.protocol.proofs.MayLaws.{may, may-permitted, may-agreed}
 
@@ -229,9 +230,19 @@ pub leaf : (l : Line) (a : Lent) → Leaf l a (ruled l a)
 unfolding ruled
 leaf l a = leaf-heard l a (readFrame (a .received)) (read-told (a .received))
 
--- four tags are refused before `byTag` is asked
+-- a tag that the client may not send is refused before `byTag` is asked
 pub unreached : Unreached
-unreached (PlainRequest Set) set l c h x y = rw (and-false (isAssociated (peer c l .association))) refl
-unreached (PlainRequest Action) plainAction l c h x y = rw (and-false (isAssociated (peer c l .association))) refl
-unreached (DedicatedRequest Set) enclosedSet l c h x y = rw (and-false (isAssociated (peer c l .association))) refl
-unreached Unknown unknown l c h x y = refl
+unreached l c h t x y never = go (isUnknown t) (permitted c held t) refl (bitAgreed (agreedIn held) t) refl
+  where
+    held : Association
+    held = peer c l .association
+
+    go : (u p : Bool) → permitted c held t ≡ p → (b : Bool) → bitAgreed (agreedIn held) t ≡ b
+        → cond u (says unknownTag (apdu h (exceptionBytes ServiceUnknown)) l)
+        (cond (not p) (says tagNotPermitted (apdu h (exceptionBytes ServiceNotAllowed)) l) (cond (not b) (says bitNotAgreed (apdu h (exceptionBytes ServiceNotAllowed)) l) x))
+        ≡ cond u (says unknownTag (apdu h (exceptionBytes ServiceUnknown)) l)
+        (cond (not p) (says tagNotPermitted (apdu h (exceptionBytes ServiceNotAllowed)) l) (cond (not b) (says bitNotAgreed (apdu h (exceptionBytes ServiceNotAllowed)) l) y))
+    go true p e b f = refl
+    go false false e b f = refl
+    go false true e false f = refl
+    go false true e true f = absurd (never (may c held t e f))

@@ -1,7 +1,6 @@
 -- `decide` and `seal` of document 01: the tests of a frame on a sound meter in its order, what goes out, and the line
 -- afterwards ("The frame", "The association", "The envelope and its counters", "What goes out"). It sees the line and what is
 -- lent, and never the body: a request that passes every test is handed to it.
-use mathlib.Core.Path.{_≡_}
 use mathlib.Core.Bool.{Bool, true, false, cond, not, _&&_}
 use mathlib.Core.List.{List, [], _++_}
 use Prim.Native.Nat.{ℕ}
@@ -25,7 +24,6 @@ use Rattle.hdlc.specs.Reading.{readFrame}
 use Rattle.cosem.specs.declared.Tag.{Tag}
 use Rattle.cosem.specs.declared.Tag.the-variants.{Aarq, Rlrq, PlainRequest, GlobalAction, DedicatedRequest, Unknown}
 use Rattle.cosem.specs.declared.ServiceKind.{ServiceKind}
-use Rattle.cosem.specs.declared.ServiceKind.the-variants.{Set, Action}
 use Rattle.cosem.specs.declared.Wanted.{Wanted}
 use Rattle.cosem.specs.declared.Wanted.the-variants.{Read, ReadSelected, Invoke, InvokeWith}
 use Rattle.cosem.specs.declared.Asked.{Asked}
@@ -227,7 +225,8 @@ byTag l a c h s Rlrq = released l c h s
 byTag l a c h s (PlainRequest k) = asked l a c h s (readService k s)
 byTag l a c h s GlobalAction = ofCiphering l c h (λ d. challengeEnclosed l a d h s)
 byTag l a c h s (DedicatedRequest k) = ofCiphering l c h (λ d. requestEnclosed l a d h k s)
--- never reached, as an unknown tag is refused before; whatever stood here, every APDU would be ruled the same (`Unreached`, below)
+-- never reached, as an unknown tag is refused before. Whatever stood here, or for a client that may not send the tag, every APDU
+-- would be ruled the same (`Unreached` of specs/Outcomes)
 byTag l a c h s Unknown = says unknownTag (apdu h (exceptionBytes ServiceUnknown)) l
 
 -- "Tests in order: a tag other than .. D8 02 02; a tag not permitted here, or GET or ACTION without its agreed bit, D8 01 01"; then
@@ -241,17 +240,6 @@ tested l c h t passed =
 
 unfoldable pub conversed : Line → Secrets → Client → Head → List ℕ → Tag → Ruling
 conversed l a c h s t = tested l c h t (byTag l a c h s t)
-
--- the tags that no client may send in any state
-pub data NeverPermitted : Tag → Type 0 where
-  set : NeverPermitted (PlainRequest Set)
-  plainAction : NeverPermitted (PlainRequest Action)
-  enclosedSet : NeverPermitted (DedicatedRequest Set)
-  unknown : NeverPermitted Unknown
-
--- what `byTag` says of these changes nothing. Proved in proofs/Leaves.
-abbrev pub Unreached : Type 0
-Unreached = (t : Tag) → NeverPermitted t → (l : Line) (c : Client) (h : Head) (x y : Ruling) → tested l c h t x ≡ tested l c h t y
 
 -- By the frame.
 

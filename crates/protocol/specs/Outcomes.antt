@@ -40,7 +40,8 @@ use Rattle.counters.specs.Window.{inWindow}
 use Rattle.envelope.specs.Layout.{sealedEnvelope}
 use Rattle.envelope.specs.Opening.{opens, opened}
 use Rattle.protocol.specs.Clients.{ciphering, peer, counters, associates, lentKeys, dedicatedKeys, isUnknown}
-use Rattle.protocol.specs.Decide.{accepted, advanced, isChallenge, secretsOf, p2}
+use Rattle.protocol.specs.Rulings.{Ruling}
+use Rattle.protocol.specs.Decide.{accepted, advanced, isChallenge, tested, secretsOf, p2}
 
 -- what the call comes to
 abbrev pub outcome : Lent → Model → Outcome
@@ -88,6 +89,13 @@ pub data MaySend : Client → Association → Tag → Type 0 where
   challenge : {c : CipherClient} {agreed key client meter : List ℕ} → MaySend (Ciphering c) (pending agreed key client meter) GlobalAction
   enclosedGet : {c : CipherClient} {agreed key : List ℕ} → within getService agreed ≡ true → MaySend (Ciphering c) (associated agreed key) (DedicatedRequest Get)
   enclosedAction : {c : CipherClient} {agreed key : List ℕ} → within actionService agreed ≡ true → MaySend (Ciphering c) (associated agreed key) (DedicatedRequest Action)
+
+-- what `Decide` has for a tag that the client may not send changes nothing: it is refused before
+abbrev pub Unreached : Type 0
+Unreached =
+    (l : Line) (c : Client) (h : Head) (t : Tag) (x y : Ruling)
+    → (MaySend c (peer c l .association) t → ⊥)
+    → tested l c h t x ≡ tested l c h t y
 
 -- an APDU with this tag that the client may send
 pub record Timely (a : Lent) (l : Line) (c : Client) (t : Tag) : Type 0 where
