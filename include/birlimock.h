@@ -15,7 +15,8 @@
  * library's own, 101, 102 and 104. An owner's call that is refused writes nothing. A frame call writes the whole state
  * buffer, changed or not, where it answers 0, 7, 12 or 13, and else nothing of it. What is written has zeros wherever the
  * meter holds nothing: in registers, columns and rows above their counts, in the keys, challenges and services of
- * associations that are over, and in challenges that were answered. So two buffers that were written are equal exactly where their meters hold the same.
+ * associations that are over, and in challenges that were answered. So two buffers that were written are equal exactly where
+ * their meters hold the same.
  */
 #ifndef BIRLIMOCK_H
 #define BIRLIMOCK_H
@@ -27,8 +28,10 @@
 extern "C" {
 #endif
 
-/* How many bytes a state buffer has. birlimock_state_size() answers it at run time. */
-#define BIRLIMOCK_STATE_SIZE 1728
+/* The version that this header belongs to, three numbers in one: 10000 is 1.0.0. The first grows where a program or a stored state of
+ * the version before does not fit any more, the second where a call, an answer or a number comes beside those that stand, the third
+ * where no caller can see a difference. birlimock_version() answers that of the library which was linked. */
+#define BIRLIMOCK_VERSION 10000
 
 /* The room for a reply that a frame call asks for: the longest frame. */
 #define BIRLIMOCK_REPLY_ROOM 779
@@ -41,37 +44,94 @@ extern "C" {
 #define BIRLIMOCK_CLOCK_SIZE 12
 #define BIRLIMOCK_NAME_SIZE 6
 
-/* A list of registers is one record of this length after the other:
- *   name 6 bytes | right 1 byte, 1 where H may read it and else 0 | scaler 1, signed: FF is -1 | unit 1 | value 4, high byte first
- * A list of columns is one name of 6 bytes after the other. */
-#define BIRLIMOCK_REGISTER_SIZE 13
+/* The state buffer, for owners who look into it: numbers stand high byte first (docs/IMAGE.md). What stands here changes with
+ * BIRLIMOCK_LAYOUT, and a buffer of another layout is refused by 102. Do not write into it: a state that no call leaves is refused
+ * by 3. A list of registers as it is lent is one record of a register after the other, whose right is 1 where H may read it and else
+ * 0, and whose scaler is signed: FF is -1. A list of columns is one name after the other. */
+/* made from include/layout.txt by include/make: */
 
-/* Refusals of document 01. Frame calls answer 1 to 13 and test 1, 2, 3 before the frame; owner's calls test 3 before their own. */
-#define BIRLIMOCK_ROOM_TOO_SHORT 1      /* reply room below BIRLIMOCK_REPLY_ROOM */
-#define BIRLIMOCK_WRONG_SECRETS 2       /* GUK or AK not of 16 bytes, or the challenge not of 8 */
-#define BIRLIMOCK_UNSOUND_STATE 3       /* the state is one that these calls never leave: see below */
-#define BIRLIMOCK_NOT_A_FRAME 4         /* nothing goes out */
-#define BIRLIMOCK_FRMR_RECEIVED 5       /* the other side rejects a frame; nothing goes out */
-#define BIRLIMOCK_ENVELOPE_NOT_OPENED 6 /* nothing goes out */
-#define BIRLIMOCK_COUNTER_OUTSIDE 7     /* nothing goes out, and H's association ends */
-#define BIRLIMOCK_FRAME_TOO_LONG 8
-#define BIRLIMOCK_BAD_FRAME 9
-#define BIRLIMOCK_NO_LINK 10            /* a link is not possible, or down */
-#define BIRLIMOCK_AARQ_REJECTED 11
-#define BIRLIMOCK_BAD_APDU 12           /* malformed, unknown or out of turn */
-#define BIRLIMOCK_DENIED 13             /* a read or an action */
-#define BIRLIMOCK_BAD_CLOCK 14
-#define BIRLIMOCK_BAD_PERIOD 15
-#define BIRLIMOCK_BAD_REGISTERS 16
-#define BIRLIMOCK_NO_REGISTER 17
-#define BIRLIMOCK_BAD_COLUMNS 18
+/* The first byte of a state buffer: the version of this layout. */
+#define BIRLIMOCK_LAYOUT 1
+
+/* How many bytes a state buffer and the records in it have. birlimock_state_size() answers the first at run time. */
+#define BIRLIMOCK_STATE_SIZE 1728
+#define BIRLIMOCK_CLIENT_SIZE 13
+#define BIRLIMOCK_REGISTER_SIZE 13
+#define BIRLIMOCK_ROW_SIZE 86
+
+/* Where fields stand in a state buffer. */
+#define BIRLIMOCK_AT_VERSION 0                               /* the version of this layout */
+#define BIRLIMOCK_AT_TITLE 1                                 /* the meter's title */
+#define BIRLIMOCK_AT_V 9                                     /* V, a client */
+#define BIRLIMOCK_AT_H 22                                    /* H, a client */
+#define BIRLIMOCK_AT_H_KEY 35                                /* H: dedicated key */
+#define BIRLIMOCK_AT_H_CHALLENGE 51                          /* H: the client's challenge */
+#define BIRLIMOCK_AT_METER_CHALLENGE 59                      /* H: the meter's challenge */
+#define BIRLIMOCK_AT_H_ACCEPTED 67                           /* H: last counter accepted */
+#define BIRLIMOCK_AT_H_SENT 71                               /* H: last counter sent */
+#define BIRLIMOCK_AT_P5 75                                   /* P5 flag */
+#define BIRLIMOCK_AT_DEVICE 76                               /* device name */
+#define BIRLIMOCK_AT_CLOCK 92                                /* clock */
+#define BIRLIMOCK_AT_PERIOD 104                              /* capture period */
+#define BIRLIMOCK_AT_RECORD_NUMBER 108                       /* record number */
+#define BIRLIMOCK_AT_REGISTER_COUNT 110                      /* how many registers are given */
+#define BIRLIMOCK_AT_REGISTER(i) (118 + 13 * (i))            /* register i, for i from 0 to 15 */
+#define BIRLIMOCK_AT_COLUMN_COUNT 326                        /* how many columns are set */
+#define BIRLIMOCK_AT_COLUMN(i) (334 + 6 * (i))               /* column i, a name, for i from 0 to 15 */
+#define BIRLIMOCK_AT_ROW_COUNT 430                           /* how many rows there are */
+#define BIRLIMOCK_AT_ROW(i) (438 + 86 * (i))                 /* row i, newest first, for i from 0 to 14 */
+
+/* Where fields stand in a client. */
+#define BIRLIMOCK_IN_CLIENT_TITLE 0                          /* title */
+#define BIRLIMOCK_IN_CLIENT_LINK 8                           /* flag: its link is up */
+#define BIRLIMOCK_IN_CLIENT_PHASE 9                          /* phase of its association */
+#define BIRLIMOCK_IN_CLIENT_SERVICES 10                      /* services agreed */
+
+/* Where fields stand in a register. */
+#define BIRLIMOCK_IN_REGISTER_NAME 0                         /* name */
+#define BIRLIMOCK_IN_REGISTER_RIGHT 6                        /* flag: H may read it */
+#define BIRLIMOCK_IN_REGISTER_SCALER 7                       /* scaler */
+#define BIRLIMOCK_IN_REGISTER_UNIT 8                         /* unit */
+#define BIRLIMOCK_IN_REGISTER_VALUE 9                        /* value */
+
+/* Where fields stand in a row. */
+#define BIRLIMOCK_IN_ROW_NUMBER 0                            /* record number */
+#define BIRLIMOCK_IN_ROW_CLOCK 2                             /* clock */
+#define BIRLIMOCK_IN_ROW_CELL_COUNT 14                       /* how many cells it has */
+#define BIRLIMOCK_IN_ROW_CELL(j) (22 + 4 * (j))              /* cell j, for j from 0 to 15 */
+
+/* end of what is made */
+
+/* Refusals of document 01 (docs/REFUSALS.md has what goes out and what the meter then holds). Frame calls answer 1 to 13 and test 1,
+ * 2, 3 before the frame; 1 to 7 send nothing. Owner's calls test 3 before their own. */
+#define BIRLIMOCK_ROOM_TOO_SHORT 1      /* too little room for a reply */
+#define BIRLIMOCK_WRONG_SECRETS 2       /* a key or the challenge is not whole */
+#define BIRLIMOCK_UNSOUND_STATE 3       /* the meter's state is not sound */
+#define BIRLIMOCK_NOT_A_FRAME 4         /* not a whole frame */
+#define BIRLIMOCK_FRMR_RECEIVED 5       /* the frame itself is a rejection */
+#define BIRLIMOCK_ENVELOPE_NOT_OPENED 6 /* the seal is not right */
+#define BIRLIMOCK_COUNTER_OUTSIDE 7     /* the counter is outside its window */
+#define BIRLIMOCK_FRAME_TOO_LONG 8      /* the frame is too long */
+#define BIRLIMOCK_BAD_FRAME 9           /* the frame is bad */
+#define BIRLIMOCK_NO_LINK 10            /* there is no link */
+#define BIRLIMOCK_AARQ_REJECTED 11      /* the association is not accepted */
+#define BIRLIMOCK_BAD_APDU 12           /* unknown, or not at this time */
+#define BIRLIMOCK_DENIED 13             /* the read or the action is denied */
+#define BIRLIMOCK_BAD_CLOCK 14          /* the clock is not valid */
+#define BIRLIMOCK_BAD_PERIOD 15         /* the period is not permitted */
+#define BIRLIMOCK_BAD_REGISTERS 16      /* the list of registers is bad */
+#define BIRLIMOCK_NO_REGISTER 17        /* there is no such register */
+#define BIRLIMOCK_BAD_COLUMNS 18        /* the list of columns is bad */
 
 /* The library's own refusals, of what document 01 does not know. 101 and 102 stand where 01 tests the state, before 3. */
-#define BIRLIMOCK_WRONG_STATE_SIZE 101  /* the state buffer has another length than BIRLIMOCK_STATE_SIZE */
-#define BIRLIMOCK_WRONG_VERSION 102     /* its first byte is not the version of this layout */
-#define BIRLIMOCK_WRONG_ARGUMENT 104    /* a new meter's argument has a wrong length, or a flag is neither 0 nor 1 */
+#define BIRLIMOCK_WRONG_STATE_SIZE 101  /* the state buffer has another length */
+#define BIRLIMOCK_WRONG_VERSION 102     /* the state buffer has another version */
+#define BIRLIMOCK_WRONG_ARGUMENT 104    /* an argument of a new meter, or a flag, is wrong */
 
-/* How many bytes a state buffer has: compare it with BIRLIMOCK_STATE_SIZE once, to see that header and library fit. */
+/* The version of the library, as BIRLIMOCK_VERSION has it: compare them once, to see that header and library fit. */
+uint32_t birlimock_version(void);
+
+/* How many bytes a state buffer has: BIRLIMOCK_STATE_SIZE. */
 size_t birlimock_state_size(void);
 
 /* A new meter: its device name (16 bytes), its own title and the titles held for V and H (8 bytes each); no registers, no
@@ -107,16 +167,19 @@ uint8_t birlimock_set_columns(uint8_t *state, size_t state_len,
 /* The capture period is set, in seconds. Own refusal: 15, not a multiple of 30 that divides 3600. */
 uint8_t birlimock_set_period(uint8_t *state, size_t state_len, uint32_t period);
 
-/* The clock moves on, and a row is taken where minutes times 60 plus seconds divide by the period. Its 12 bytes: year (2,
- * high byte first, 2000 to 2099), month, day, FF, hour, minute, second, FF, 80 00 00. Own refusal: 14, other bytes, another
- * number of them, or no real date and time. */
+/* The clock moves on, and a row is taken where minutes times 60 plus seconds divide by the period: by this second alone, so tick
+ * once in each second. A due second that no tick names takes no row, and one that two ticks name takes two. The clock's 12 bytes:
+ * year (2, high byte first, 2000 to 2099), month, day, FF, hour, minute, second, FF, 80 00 00. Own refusal: 14, other bytes,
+ * another number of them, or no real date and time. */
 uint8_t birlimock_tick(uint8_t *state, size_t state_len,
                        const uint8_t *clock, size_t clock_len);
 
 /* The P5 flag, which keeps V from linking: 1 sets it, 0 clears it, any other number is refused by 104, after 3. */
 uint8_t birlimock_set_p5(uint8_t *state, size_t state_len, uint32_t held);
 
-/* Power-up: links and associations end; counters, rows and record number are cleared. To be called after every start. */
+/* Power-up: links and associations end; counters, rows and record number are cleared. To be called after every start, and
+ * with a new GUK: the meter's counters begin at 1 again, so under the same GUK it seals with numbers that were used before
+ * (docs/EMBEDDING.md, "Keeping the state"). */
 uint8_t birlimock_power_up(uint8_t *state, size_t state_len);
 
 /* The frame call: a frame was received. Lent are GUK and AK (16 bytes each), a challenge of 8 bytes that the caller draws

@@ -2,7 +2,8 @@
 
 use crate::random::Random;
 use crate::states::{self, name, next_due, register, wrong_clock, wrong_period, PERIODS};
-use reference::image::{register_record, REGISTER_SIZE, RIGHT_IN};
+use reference::image::register_record;
+use reference::layout::{IN_REGISTER_RIGHT, REGISTER_SIZE};
 use reference::library::Call;
 use reference::meter::{Meter, Register, OWN_NAMES};
 use reference::soundness::MOST_REGISTERS;
@@ -64,7 +65,7 @@ fn give_registers(random: &mut Random) -> Call {
     let mut records: Vec<u8> = list.iter().flat_map(register_record).collect();
     match random.below(20) {
         0 if !list.is_empty() => {
-            records[REGISTER_SIZE * random.below(list.len()) + RIGHT_IN] = random.pick(&[2, 0x80, 0xFF])
+            records[REGISTER_SIZE * random.below(list.len()) + IN_REGISTER_RIGHT] = random.pick(&[2, 0x80, 0xFF])
         }
         1 => records.extend(random.pick(&[vec![0], vec![1; 12]])),
         _ => {}

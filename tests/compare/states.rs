@@ -4,6 +4,7 @@
 use crate::random::Random;
 use reference::clock::{days_in, is_due, Clock};
 use reference::image::{self, SIZE};
+use reference::layout;
 use reference::meter::{self, Ciphered, Han, Meter, Plain, Register, Row, Verification, MOST_ROWS, OWN_NAMES};
 use reference::request::Name;
 use reference::soundness::{agreed, Clause, MOST_COLUMNS, MOST_REGISTERS, OFFERED_CIPHERED, OFFERED_PLAIN};
@@ -215,10 +216,10 @@ pub fn unsound(random: &mut Random, clause: Clause) -> Vec<u8> {
     spoil_line(random, &mut meter, clause);
     let mut image = image(random, &meter);
     let counted = match clause {
-        Clause::RegisterCount => Some((image::REGISTER_COUNT_AT, MOST_REGISTERS)),
-        Clause::ColumnCount => Some((image::COLUMN_COUNT_AT, MOST_COLUMNS)),
-        Clause::RowCount => Some((image::ROW_COUNT_AT, MOST_ROWS)),
-        Clause::RowCells if random.percent(40) => Some((image::ROWS_AT + image::CELL_COUNT_IN, MOST_COLUMNS)),
+        Clause::RegisterCount => Some((layout::AT_REGISTER_COUNT, MOST_REGISTERS)),
+        Clause::ColumnCount => Some((layout::AT_COLUMN_COUNT, MOST_COLUMNS)),
+        Clause::RowCount => Some((layout::AT_ROW_COUNT, MOST_ROWS)),
+        Clause::RowCells if random.percent(40) => Some((layout::at_row(0) + layout::IN_ROW_CELL_COUNT, MOST_COLUMNS)),
         _ => None,
     };
     if let Some((place, capacity)) = counted {

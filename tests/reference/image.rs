@@ -1,58 +1,34 @@
-//! State buffers by docs/IMAGE.md: a meter read from one, and one written for a meter.
+//! State buffers by docs/IMAGE.md: a meter read from one, field by field, and one written for a meter, by the places of the
+//! table that the page is made from.
 //! A count above its array is read as one item more than the array has: enough to be unsound, as the count is.
 
 use crate::bytes::Reader;
+use crate::layout::*;
 use crate::meter::{Ciphered, Han, Meter, Plain, Register, Row, Verification};
 use crate::request::Name;
 
-pub const SIZE: usize = 1728;
-const VERSION: u8 = 1;
+pub const SIZE: usize = STATE_SIZE;
 
 pub const WRONG_SIZE: u8 = 101;
 pub const WRONG_VERSION: u8 = 102;
 /// A byte that no meter has: document 01's number for a state that is not sound.
 pub const NO_STATE: u8 = 3;
 
-const REGISTERS: usize = 16;
-const COLUMNS: usize = 16;
-const ROWS: usize = 15;
-const CELLS: usize = 16;
-
-/// Where a client's record begins, and where its parts stand within it.
-const VERIFICATION_AT: usize = 9;
-const HAN_AT: usize = 22;
-const LINK_IN: usize = 8;
-const PHASE_IN: usize = 9;
-const AGREED_IN: std::ops::Range<usize> = 10..13;
-
-/// H's key and both challenges; flags and lists.
-const SECRETS_AT: std::ops::Range<usize> = 35..67;
-const P5_AT: usize = 75;
-pub const REGISTER_COUNT_AT: usize = 110;
-const REGISTERS_AT: usize = 118;
-pub const REGISTER_SIZE: usize = 13;
-pub const RIGHT_IN: usize = 6;
-pub const COLUMN_COUNT_AT: usize = 326;
-pub const ROW_COUNT_AT: usize = 430;
-pub const ROWS_AT: usize = 438;
-const ROW_SIZE: usize = 86;
-pub const CELL_COUNT_IN: usize = 14;
-
 /// Every place of a flag.
 pub fn flag_places() -> Vec<usize> {
-    let rights = (0..REGISTERS).map(|i| REGISTERS_AT + REGISTER_SIZE * i + RIGHT_IN);
-    [VERIFICATION_AT + LINK_IN, HAN_AT + LINK_IN, P5_AT].into_iter().chain(rights).collect()
+    let rights = (0..AT_REGISTER_TIMES).map(|i| at_register(i) + IN_REGISTER_RIGHT);
+    [AT_V + IN_CLIENT_LINK, AT_H + IN_CLIENT_LINK, AT_P5].into_iter().chain(rights).collect()
 }
 
 /// The places of the two phases.
-pub const PHASE_PLACES: [usize; 2] = [VERIFICATION_AT + PHASE_IN, HAN_AT + PHASE_IN];
+pub const PHASE_PLACES: [usize; 2] = [AT_V + IN_CLIENT_PHASE, AT_H + IN_CLIENT_PHASE];
 
 /// The meter of a buffer, or the refusal by which the buffer is none.
 pub fn read(image: &[u8]) -> Result<Meter, u8> {
     if image.len() != SIZE {
         return Err(WRONG_SIZE);
     }
-    if image[0] != VERSION {
+    if image[AT_VERSION] != LAYOUT {
         return Err(WRONG_VERSION);
     }
     let flags = flag_places().iter().all(|&place| image[place] <= 1);
@@ -76,9 +52,9 @@ fn meter(reader: &mut Reader) -> Option<Meter> {
         clock: reader.array()?,
         period: reader.number32()?,
         record_number: reader.number16()?,
-        registers: list(reader, REGISTERS, register)?,
-        columns: list(reader, COLUMNS, Reader::array)?,
-        rows: list(reader, ROWS, row)?,
+        registers: list(reader, AT_REGISTER_TIMES, register)?,
+        columns: list(reader, AT_COLUMN_TIMES, Reader::array)?,
+        rows: list(reader, AT_ROW_TIMES, row)?,
     })
 }
 
@@ -124,7 +100,11 @@ fn register(reader: &mut Reader) -> Option<Register> {
 }
 
 fn row(reader: &mut Reader) -> Option<Row> {
-    Some(Row { number: reader.number16()?, clock: reader.array()?, cells: list(reader, CELLS, Reader::number32)? })
+    Some(Row {
+        number: reader.number16()?,
+        clock: reader.array()?,
+        cells: list(reader, IN_ROW_CELL_TIMES, Reader::number32)?,
+    })
 }
 
 /// A count and an array that is there in full: the items that are counted, and the last one again for a count above.
@@ -144,15 +124,15 @@ fn list<'a, T: Clone>(
 pub fn write(meter: &Meter, filling: &[u8]) -> Vec<u8> {
     let mut image = filling.to_vec();
     let mut put = |place: usize, bytes: &[u8]| image[place..place + bytes.len()].copy_from_slice(bytes);
-    put(0, &[VERSION]);
-    put(1, &meter.title);
+    put(AT_VERSION, &[LAYOUT]);
+    put(AT_TITLE, &meter.title);
     put_verification(&meter.verification, &mut put);
     put_han(&meter.han, &mut put);
-    put(P5_AT, &[meter.p5.into()]);
-    put(76, &meter.device);
-    put(92, &meter.clock);
-    put(104, &meter.period.to_be_bytes());
-    put(108, &meter.record_number.to_be_bytes());
+    put(AT_P5, &[meter.p5.into()]);
+    put(AT_DEVICE, &meter.device);
+    put(AT_CLOCK, &meter.clock);
+    put(AT_PERIOD, &meter.period.to_be_bytes());
+    put(AT_RECORD_NUMBER, &meter.record_number.to_be_bytes());
     put_lists(meter, &mut put);
     image
 }
@@ -162,49 +142,58 @@ fn put_verification(client: &Verification, put: &mut impl FnMut(usize, &[u8])) {
         Plain::Absent => 0,
         Plain::Pending => 1,
         Plain::Associated(agreed) => {
-            put(VERIFICATION_AT + AGREED_IN.start, &agreed);
+            put(AT_V + IN_CLIENT_SERVICES, &agreed);
             2
         }
     };
-    put(VERIFICATION_AT, &client.title);
-    put(VERIFICATION_AT + LINK_IN, &[client.linked.into(), phase]);
+    put(AT_V + IN_CLIENT_TITLE, &client.title);
+    put(AT_V + IN_CLIENT_LINK, &[client.linked.into()]);
+    put(AT_V + IN_CLIENT_PHASE, &[phase]);
 }
 
 fn put_han(client: &Han, put: &mut impl FnMut(usize, &[u8])) {
     let phase = match &client.association {
         Ciphered::Absent => 0,
         Ciphered::Pending { agreed, key, client_challenge, meter_challenge } => {
-            put(HAN_AT + AGREED_IN.start, agreed);
-            put(SECRETS_AT.start, &[&key[..], client_challenge, meter_challenge].concat());
+            put(AT_H + IN_CLIENT_SERVICES, agreed);
+            put(AT_H_KEY, key);
+            put(AT_H_CHALLENGE, client_challenge);
+            put(AT_METER_CHALLENGE, meter_challenge);
             1
         }
         Ciphered::Associated { agreed, key } => {
-            put(HAN_AT + AGREED_IN.start, agreed);
-            put(SECRETS_AT.start, key);
+            put(AT_H + IN_CLIENT_SERVICES, agreed);
+            put(AT_H_KEY, key);
             2
         }
     };
-    put(HAN_AT, &client.title);
-    put(HAN_AT + LINK_IN, &[client.linked.into(), phase]);
-    put(SECRETS_AT.end, &[client.accepted.to_be_bytes(), client.sent.to_be_bytes()].concat());
+    put(AT_H + IN_CLIENT_TITLE, &client.title);
+    put(AT_H + IN_CLIENT_LINK, &[client.linked.into()]);
+    put(AT_H + IN_CLIENT_PHASE, &[phase]);
+    put(AT_H_ACCEPTED, &client.accepted.to_be_bytes());
+    put(AT_H_SENT, &client.sent.to_be_bytes());
 }
 
 fn put_lists(meter: &Meter, put: &mut impl FnMut(usize, &[u8])) {
-    let records = meter.registers.iter().flat_map(register_record).collect::<Vec<u8>>();
-    put_list(REGISTER_COUNT_AT, meter.registers.len(), &records, put);
-    put_list(COLUMN_COUNT_AT, meter.columns.len(), &meter.columns.concat(), put);
-    put_list(ROW_COUNT_AT, meter.rows.len(), &[], put);
-    for (i, row) in meter.rows.iter().enumerate() {
-        let place = ROWS_AT + ROW_SIZE * i;
-        put(place, &[&row.number.to_be_bytes()[..], &row.clock].concat());
-        let cells: Vec<u8> = row.cells.iter().flat_map(|cell| cell.to_be_bytes()).collect();
-        put_list(place + CELL_COUNT_IN, row.cells.len(), &cells, put);
+    let count = |list: usize| (list as u64).to_be_bytes();
+    put(AT_REGISTER_COUNT, &count(meter.registers.len()));
+    for (i, register) in meter.registers.iter().enumerate() {
+        put(at_register(i), &register_record(register));
     }
-}
-
-fn put_list(place: usize, count: usize, items: &[u8], put: &mut impl FnMut(usize, &[u8])) {
-    put(place, &(count as u64).to_be_bytes());
-    put(place + 8, items);
+    put(AT_COLUMN_COUNT, &count(meter.columns.len()));
+    for (i, column) in meter.columns.iter().enumerate() {
+        put(at_column(i), column);
+    }
+    put(AT_ROW_COUNT, &count(meter.rows.len()));
+    for (i, row) in meter.rows.iter().enumerate() {
+        let at = at_row(i);
+        put(at + IN_ROW_NUMBER, &row.number.to_be_bytes());
+        put(at + IN_ROW_CLOCK, &row.clock);
+        put(at + IN_ROW_CELL_COUNT, &count(row.cells.len()));
+        for (j, cell) in row.cells.iter().enumerate() {
+            put(at + in_row_cell(j), &cell.to_be_bytes());
+        }
+    }
 }
 
 /// A register as thirteen bytes: in an image and in the call that gives registers alike.
@@ -218,7 +207,7 @@ pub fn read_registers(records: &[u8]) -> Option<Vec<Register>> {
     if records.len() % REGISTER_SIZE != 0 {
         return None;
     }
-    let is_right = |record: &[u8]| record[RIGHT_IN] <= 1;
+    let is_right = |record: &[u8]| record[IN_REGISTER_RIGHT] <= 1;
     let records = records.chunks(REGISTER_SIZE);
     records.map(|record| is_right(record).then(|| register(&mut Reader::new(record)))?).collect()
 }

@@ -12,6 +12,8 @@ pub mod envelope;
 pub mod frame;
 pub mod gcm;
 pub mod image;
+#[path = "../../embedding/layout.rs"]
+pub mod layout;
 pub mod library;
 pub mod meter;
 pub mod objects;

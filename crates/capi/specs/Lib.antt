@@ -3,3 +3,4 @@ pub mod Lending
 pub mod Promises
 pub mod Runs
 pub mod Numbers
+pub mod Version

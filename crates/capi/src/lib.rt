@@ -15,6 +15,17 @@ ghost use Rattle.owner_calls.specs.Lending.{LentOwner};
 ghost use Rattle.owner_calls.specs.Promises.{NewCalled, OwnerCalled};
 ghost use Rattle.p2.specs.Promise.{lent};
 ghost use Rattle.capi.specs.Promises.{FrameCalled, FrameEnds};
+ghost use Rattle.capi.specs.Version.{libraryVersion};
+
+// The version of the library: first number times 10000, second times 100, third.
+const VERSION: u32 = 10000;
+
+#[no_mangle]
+pub extern "C" fn birlimock_version() -> u32
+    ensures { λ r. ⌜ r ≡ libraryVersion ⌝ }
+{
+    VERSION
+}
 
 // How many bytes a state buffer has.
 #[no_mangle]
