@@ -1,5 +1,5 @@
-//! What the script program is given and what it has to answer, from the source: each call as its lines, each line with the
-//! answer of the second meter.
+//! Calls as lines of the script program, and what has to be answered to them, from the source: each call as its lines, each line
+//! with the answer of the second meter.
 
 use crate::calls::{self, Letters};
 use crate::hexadecimal::hex;
@@ -7,26 +7,31 @@ use crate::script::{self, Program};
 use crate::source::{self, Entry, Expected, Step};
 use reference::receive::Outcome;
 
-const HEAD: &str = "# Made by tests/cases/make from tests/cases/script: change that source, and make this file again.";
-
-/// Standard input and standard output of the script program, as far as they are made.
+/// Calls as the script program reads them, and its answers, as far as they are made; and how many lines of both there were at
+/// the last heading.
 pub struct Exchange {
     program: Program,
     letters: Letters,
     input: Vec<Vec<u8>>,
     output: Vec<String>,
+    headed: (usize, usize),
 }
 
 impl Exchange {
-    pub fn begun() -> Exchange {
-        Exchange { program: Program::started(), letters: Letters::Large, input: vec![HEAD.into()], output: vec![] }
+    pub fn begun(source: &str) -> Exchange {
+        let head = format!("# Made by tests/cases/make from {source}: change that source, and make this file again.");
+        let input = vec![head.into()];
+        Exchange { program: Program::started(), letters: Letters::Large, input, output: vec![], headed: (1, 0) }
     }
 
     /// Adds what one line of the source says.
     pub fn add(&mut self, line: &str) -> Result<(), String> {
         match source::read(line)? {
             Entry::Blank => {}
-            Entry::Heading(heading) => self.input.extend([vec![], format!("# == {heading}").into()]),
+            Entry::Heading(heading) => {
+                self.input.extend([vec![], format!("# == {heading}").into()]);
+                self.headed = (self.input.len(), self.output.len());
+            }
             Entry::Step(step) => self.step(&step)?,
         }
         Ok(())
@@ -38,6 +43,7 @@ impl Exchange {
             "" => self.comment(name, None),
             "letters large" => self.letters = Letters::Large,
             "letters small" => self.letters = Letters::Small,
+            "prepared" => self.prepared()?,
             _ if call.contains('"') => self.quoted(name, source::quoted(call)?, expected)?,
             _ if calls::is_line(call) => self.answered(name, vec![call.into()], expected)?,
             _ => {
@@ -46,6 +52,15 @@ impl Exchange {
             }
         }
         Ok(())
+    }
+
+    /// The calls since the heading have prepared the meter: in their place stands its image.
+    fn prepared(&mut self) -> Result<(), String> {
+        let (input, output) = self.headed;
+        self.input.truncate(input);
+        self.output.truncate(output);
+        let image = calls::lines("changed", self.program.meter(), self.letters)?;
+        self.answered(None, image, Expected::Number(0))
     }
 
     /// A name as a comment; a sealed answer stands behind it in its plain form.

@@ -30,17 +30,26 @@ fn main() -> ExitCode {
 
 /// Every file that is made.
 fn made() -> Result<Vec<Made>, String> {
-    Ok(script()?.into_iter().chain(day()?).collect())
+    Ok(script()?.into_iter().chain(bench()?).chain(day()?).collect())
 }
 
 /// The files of the script program, from all files of its source in the order of their names.
 fn script() -> Result<[Made; 2], String> {
-    let mut exchange = Exchange::begun();
+    let mut exchange = Exchange::begun("tests/cases/script");
     for path in sources("tests/cases/script")? {
         each_line(&path, |line| exchange.add(line))?;
     }
     let [input, output] = exchange.files();
     Ok([Made { path: "crates/script/stdin", content: input }, Made { path: "crates/script/stdout", content: output }])
+}
+
+/// The calls that bench/run measures, and their answers.
+fn bench() -> Result<[Made; 2], String> {
+    let source = "tests/cases/bench.txt";
+    let mut exchange = Exchange::begun(source);
+    each_line(source, |line| exchange.add(line))?;
+    let [input, output] = exchange.files();
+    Ok([Made { path: "bench/calls", content: input }, Made { path: "bench/answers", content: output }])
 }
 
 /// The play of the program `day`, and what it prints.

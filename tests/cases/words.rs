@@ -89,8 +89,12 @@ pub fn range<T: FromStr>(text: &str) -> Result<(T, T), String> {
     Ok((number(from)?, number(to)?))
 }
 
-/// Bytes: pairs of digits, or `COUNT*PAIRS`; a dash for none.
+/// Bytes: pieces with `+` between them, each pairs of digits or `COUNT*PAIRS`; a dash for none.
 pub fn bytes(text: &str) -> Result<Vec<u8>, String> {
+    Ok(text.split('+').map(piece).collect::<Result<Vec<_>, _>>()?.concat())
+}
+
+fn piece(text: &str) -> Result<Vec<u8>, String> {
     let (count, pairs) = match text.split_once('*') {
         Some((count, pairs)) => (number(count)?, pairs),
         None => (1, text),
