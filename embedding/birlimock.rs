@@ -1,8 +1,14 @@
 //! The static library in Rust: a meter that owns its state buffer, and its calls as safe methods. Each answers what
-//! include/birlimock.h says; a refusal is the `Err` of its number.
+//! include/birlimock.h says; a refusal is the `Err` of its number. `layout` has the places of a state's fields.
+
+#[path = "layout.rs"]
+pub mod layout;
+
+pub use layout::STATE_SIZE;
 
 mod library {
     unsafe extern "C" {
+        pub fn birlimock_version() -> u32;
         pub fn birlimock_state_size() -> usize;
         pub fn birlimock_new(
             state: *mut u8, state_len: usize, device: *const u8, device_len: usize, title: *const u8, title_len: usize,
@@ -23,12 +29,13 @@ mod library {
     }
 }
 
-pub const STATE_SIZE: usize = 1728;
+/// The version of the library that this file belongs to: 1.0.0.
+pub const VERSION: u32 = 10000;
 pub const REPLY_ROOM: usize = 779;
 
-/// How many bytes the linked library asks of a state buffer: `STATE_SIZE`, where it belongs to this file.
-pub fn state_size() -> usize {
-    unsafe { library::birlimock_state_size() }
+/// Whether the library that was linked is the one that this file belongs to.
+pub fn fits() -> bool {
+    unsafe { library::birlimock_version() == VERSION && library::birlimock_state_size() == STATE_SIZE }
 }
 
 /// A meter. Its state is plain bytes, to be kept and brought back as they are.

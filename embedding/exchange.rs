@@ -4,7 +4,7 @@
 
 mod birlimock;
 
-use birlimock::{Lent, Meter, REPLY_ROOM, STATE_SIZE};
+use birlimock::{layout, Lent, Meter, REPLY_ROOM};
 use std::io::BufRead;
 
 fn hex(text: &str) -> Option<Vec<u8>> {
@@ -40,7 +40,8 @@ fn run(meter: &mut Meter, line: &Line) -> bool {
     same
 }
 
-fn owners_calls(meter: &mut Meter) -> Result<(), u8> {
+/// Five due ticks, two of them of one second; gives the record number that the meter then has.
+fn owners_calls(meter: &mut Meter) -> Result<u16, u8> {
     let drawn = [1, 0, 1, 8, 0, 255];
     let record = [&drawn[..], &[1, 0, 30], &7u32.to_be_bytes()].concat();
     meter.give_registers(&record)?;
@@ -50,13 +51,20 @@ fn owners_calls(meter: &mut Meter) -> Result<(), u8> {
     for minute in [0, 15, 30, 30, 45] {
         meter.tick(&[0x07, 0xEA, 10, 25, 0xFF, 2, minute, 0, 0xFF, 0x80, 0x00, 0x00])?;
     }
+    let number = record_number(meter);
     meter.set_p5(true)?;
-    meter.power_up()
+    meter.power_up()?;
+    Ok(number)
+}
+
+/// The record number, as it stands in the state.
+fn record_number(meter: &Meter) -> u16 {
+    u16::from_be_bytes([meter.state[layout::AT_RECORD_NUMBER], meter.state[layout::AT_RECORD_NUMBER + 1]])
 }
 
 fn main() {
     let mut meter = Meter::new(b"TPC1070201000001", b"MMM\x00\x00\xBC\x61\x4E", b"VER\0\0\0\0\0", b"HAN\0\0\0\0\0").expect("a new meter");
-    let mut good = birlimock::state_size() == STATE_SIZE;
+    let mut good = birlimock::fits();
     let mut lines = 0;
     for text in std::io::stdin().lock().lines() {
         match line_of(&text.expect("a line of text")) {
@@ -66,12 +74,11 @@ fn main() {
         lines += 1;
     }
     good = good && lines > 0;
-    match owners_calls(&mut meter) {
-        Ok(()) => println!("owner's calls: all accepted"),
-        Err(number) => {
-            println!("owner's calls: refused by {number}");
-            good = false;
-        }
+    let answered = owners_calls(&mut meter);
+    match answered {
+        Ok(number) => println!("owner's calls: all accepted, {number} rows taken"),
+        Err(number) => println!("owner's calls: refused by {number}"),
     }
+    good = good && answered == Ok(5);
     std::process::exit(if good { 0 } else { 1 });
 }

@@ -1,5 +1,6 @@
 /* A meter that answers at its plug: it is made, given two registers and a clock, and hears four frames of a Verification client
- * that links up and asks without being associated. Every number that a call answers is printed. */
+ * that links up and asks without being associated. Every number that a call answers is printed, and the rows as the owner finds
+ * them in the state. */
 #include "birlimock.h"
 
 #include <stdio.h>
@@ -18,6 +19,27 @@ static void owner(const char *call, uint8_t number)
     printf("%-24s %u\n", call, number);
 }
 
+/* A number of so many bytes, as it stands in the state: high byte first. */
+static unsigned long number_at(const uint8_t *bytes, size_t count)
+{
+    unsigned long number = 0;
+    for (size_t i = 0; i < count; i++)
+        number = number << 8 | bytes[i];
+    return number;
+}
+
+/* Prints the rows, the newest first, each with its first cell. */
+static void rows(void)
+{
+    unsigned long count = number_at(state + BIRLIMOCK_AT_ROW_COUNT, 8);
+    for (unsigned long i = 0; i < count; i++) {
+        const uint8_t *row = state + BIRLIMOCK_AT_ROW(i);
+        const uint8_t *clock = row + BIRLIMOCK_IN_ROW_CLOCK;
+        printf("row of record number %-3lu %02u:%02u:%02u, %lu\n", number_at(row + BIRLIMOCK_IN_ROW_NUMBER, 2), clock[5], clock[6],
+               clock[7], number_at(row + BIRLIMOCK_IN_ROW_CELL(0), 4));
+    }
+}
+
 /* Hears a frame, and prints the number and what goes out. */
 static void hear(const char *what, const uint8_t *frame, size_t length)
 {
@@ -32,8 +54,8 @@ static void hear(const char *what, const uint8_t *frame, size_t length)
 
 int main(void)
 {
-    if (birlimock_state_size() != BIRLIMOCK_STATE_SIZE) {
-        fprintf(stderr, "this header belongs to another library\n");
+    if (birlimock_version() != BIRLIMOCK_VERSION || birlimock_state_size() != BIRLIMOCK_STATE_SIZE) {
+        fprintf(stderr, "this header belongs to another version of the library\n");
         return 1;
     }
 
@@ -57,6 +79,7 @@ int main(void)
     owner("tick in a 13th month", birlimock_tick(state, sizeof state, no_clock, sizeof no_clock));
     owner("tick, a byte short", birlimock_tick(state, sizeof state, quarter, sizeof quarter - 1));
     owner("state, a byte short", birlimock_power_up(state, sizeof state - 1));
+    rows();
 
     static const uint8_t link_up[] = {0x7E, 0xA0, 0x07, 0x03, 0x21, 0x93, 0x0F, 0x01, 0x7E};
     static const uint8_t get[] = {0x7E, 0xA0, 0x19, 0x03, 0x21, 0x13, 0xE4, 0xE8, 0xE6, 0xE6, 0x00, 0xC0, 0x01, 0xC1,
