@@ -45,9 +45,9 @@ extern "C" {
 #define BIRLIMOCK_NAME_SIZE 6
 
 /* The state buffer, for owners who look into it: numbers stand high byte first (docs/IMAGE.md). What stands here changes with
- * BIRLIMOCK_LAYOUT, and a buffer of another layout is refused by 102. Do not write into it: a state that no call leaves is refused
- * by 3. A list of registers as it is lent is one record of a register after the other, whose right is 1 where H may read it and else
- * 0, and whose scaler is signed: FF is -1. A list of columns is one name after the other. */
+ * BIRLIMOCK_LAYOUT, and a buffer of another layout is refused by 102. Read it, and leave the writing to the calls: a state that is
+ * not sound is refused by 3. A list of registers as it is lent is one record of a register after the other, whose right is 1 where H
+ * may read it and else 0, and whose scaler is signed: FF is -1. A list of columns is one name after the other. */
 /* made from include/layout.txt by include/make: */
 
 /* The first byte of a state buffer: the version of this layout. */
