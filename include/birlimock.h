@@ -45,9 +45,10 @@ extern "C" {
 #define BIRLIMOCK_NAME_SIZE 6
 
 /* The state buffer, for owners who look into it: numbers stand high byte first (docs/IMAGE.md). What stands here changes with
- * BIRLIMOCK_LAYOUT, and a buffer of another layout is refused by 102. Read it, and leave the writing to the calls: a state that is
- * not sound is refused by 3. A list of registers as it is lent is one record of a register after the other, whose right is 1 where H
- * may read it and else 0, and whose scaler is signed: FF is -1. A list of columns is one name after the other. */
+ * BIRLIMOCK_LAYOUT, and a buffer of another layout is refused by 102. Read it, and leave the writing to the calls: 3 refuses some
+ * of what a write can spoil, and a counter or a key that was changed is taken as it stands. A list of registers as it is lent is one
+ * record of a register after the other, whose right is 1 where H may read it and else 0, and whose scaler is signed: FF is -1. A list
+ * of columns is one name after the other. */
 /* made from include/layout.txt by include/make: */
 
 /* The first byte of a state buffer: the version of this layout. */
@@ -115,7 +116,7 @@ extern "C" {
 #define BIRLIMOCK_BAD_FRAME 9           /* the frame is bad */
 #define BIRLIMOCK_NO_LINK 10            /* there is no link */
 #define BIRLIMOCK_AARQ_REJECTED 11      /* the association is not accepted */
-#define BIRLIMOCK_BAD_APDU 12           /* unknown, or not at this time */
+#define BIRLIMOCK_BAD_APDU 12           /* malformed, unknown, or not now */
 #define BIRLIMOCK_DENIED 13             /* the read or the action is denied */
 #define BIRLIMOCK_BAD_CLOCK 14          /* the clock is not valid */
 #define BIRLIMOCK_BAD_PERIOD 15         /* the period is not permitted */
@@ -128,7 +129,7 @@ extern "C" {
 #define BIRLIMOCK_WRONG_VERSION 102     /* the state buffer has another version */
 #define BIRLIMOCK_WRONG_ARGUMENT 104    /* an argument of a new meter, or a flag, is wrong */
 
-/* The version of the library, as BIRLIMOCK_VERSION has it: compare them once, to see that header and library fit. */
+/* The version of the library, as BIRLIMOCK_VERSION has it: compare them once, to see that header and library are of one version. */
 uint32_t birlimock_version(void);
 
 /* How many bytes a state buffer has: BIRLIMOCK_STATE_SIZE. */

@@ -35,7 +35,7 @@ const MEANINGS: [&str; 14] = [
     "refused: the frame is bad",
     "refused: there is no link",
     "refused: the association is not accepted",
-    "refused: unknown, or not at this time",
+    "refused: malformed, unknown, or not now",
     "refused: the read or the action is denied",
 ];
 

@@ -149,7 +149,7 @@ fn print_answer(l: &[u8], number: u8, alike: bool) {
         \x20 9  refused: the frame is bad                     |\
         \x2010  refused: there is no link                     |\
         \x2011  refused: the association is not accepted      |\
-        \x2012  refused: unknown, or not at this time         |\
+        \x2012  refused: malformed, unknown, or not now       |\
         \x2013  refused: the read or the action is denied     ",
         number,
         alike,
