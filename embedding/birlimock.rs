@@ -1,5 +1,6 @@
 //! The static library in Rust: a meter that owns its state buffer, and its calls as safe methods. Each answers what
 //! include/birlimock.h says; a refusal is the `Err` of its number. `layout` has the places of a state's fields.
+#![allow(dead_code)]
 
 #[path = "layout.rs"]
 pub mod layout;
@@ -39,6 +40,7 @@ pub fn fits() -> bool {
 }
 
 /// A meter. Its state is plain bytes, to be kept and brought back as they are.
+#[derive(Clone)]
 pub struct Meter {
     pub state: [u8; STATE_SIZE],
 }

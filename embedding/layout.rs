@@ -6,6 +6,10 @@ pub const STATE_SIZE: usize = 1728;
 pub const CLIENT_SIZE: usize = 13;
 pub const REGISTER_SIZE: usize = 13;
 pub const ROW_SIZE: usize = 86;
+pub const REGISTERS: usize = 16;
+pub const COLUMNS: usize = 16;
+pub const ROWS: usize = 15;
+pub const CELLS: usize = 16;
 
 pub const AT_VERSION: usize = 0;
 pub const AT_TITLE: usize = 1;
@@ -22,17 +26,14 @@ pub const AT_CLOCK: usize = 92;
 pub const AT_PERIOD: usize = 104;
 pub const AT_RECORD_NUMBER: usize = 108;
 pub const AT_REGISTER_COUNT: usize = 110;
-pub const AT_REGISTER_TIMES: usize = 16;
 pub const fn at_register(i: usize) -> usize {
     118 + 13 * i
 }
 pub const AT_COLUMN_COUNT: usize = 326;
-pub const AT_COLUMN_TIMES: usize = 16;
 pub const fn at_column(i: usize) -> usize {
     334 + 6 * i
 }
 pub const AT_ROW_COUNT: usize = 430;
-pub const AT_ROW_TIMES: usize = 15;
 pub const fn at_row(i: usize) -> usize {
     438 + 86 * i
 }
@@ -51,7 +52,6 @@ pub const IN_REGISTER_VALUE: usize = 9;
 pub const IN_ROW_NUMBER: usize = 0;
 pub const IN_ROW_CLOCK: usize = 2;
 pub const IN_ROW_CELL_COUNT: usize = 14;
-pub const IN_ROW_CELL_TIMES: usize = 16;
 pub const fn in_row_cell(i: usize) -> usize {
     22 + 4 * i
 }

@@ -60,46 +60,52 @@ extern "C" {
 #define BIRLIMOCK_REGISTER_SIZE 13
 #define BIRLIMOCK_ROW_SIZE 86
 
+/* How many of each there are room for; a count says how many are there. */
+#define BIRLIMOCK_REGISTERS 16
+#define BIRLIMOCK_COLUMNS 16
+#define BIRLIMOCK_ROWS 15
+#define BIRLIMOCK_CELLS 16
+
 /* Where fields stand in a state buffer. */
-#define BIRLIMOCK_AT_VERSION 0                               /* the version of this layout */
-#define BIRLIMOCK_AT_TITLE 1                                 /* the meter's title */
-#define BIRLIMOCK_AT_V 9                                     /* V, a client */
-#define BIRLIMOCK_AT_H 22                                    /* H, a client */
-#define BIRLIMOCK_AT_H_KEY 35                                /* H: dedicated key */
-#define BIRLIMOCK_AT_H_CHALLENGE 51                          /* H: the client's challenge */
-#define BIRLIMOCK_AT_METER_CHALLENGE 59                      /* H: the meter's challenge */
-#define BIRLIMOCK_AT_H_ACCEPTED 67                           /* H: last counter accepted */
-#define BIRLIMOCK_AT_H_SENT 71                               /* H: last counter sent */
-#define BIRLIMOCK_AT_P5 75                                   /* P5 flag */
-#define BIRLIMOCK_AT_DEVICE 76                               /* device name */
-#define BIRLIMOCK_AT_CLOCK 92                                /* clock */
-#define BIRLIMOCK_AT_PERIOD 104                              /* capture period */
-#define BIRLIMOCK_AT_RECORD_NUMBER 108                       /* record number */
-#define BIRLIMOCK_AT_REGISTER_COUNT 110                      /* how many registers are given */
-#define BIRLIMOCK_AT_REGISTER(i) (118 + 13 * (i))            /* register i, for i from 0 to 15 */
-#define BIRLIMOCK_AT_COLUMN_COUNT 326                        /* how many columns are set */
-#define BIRLIMOCK_AT_COLUMN(i) (334 + 6 * (i))               /* column i, a name, for i from 0 to 15 */
-#define BIRLIMOCK_AT_ROW_COUNT 430                           /* how many rows there are */
-#define BIRLIMOCK_AT_ROW(i) (438 + 86 * (i))                 /* row i, newest first, for i from 0 to 14 */
+#define BIRLIMOCK_AT_VERSION 0                               /* 1 byte: the version of this layout */
+#define BIRLIMOCK_AT_TITLE 1                                 /* 8 bytes: the meter's title */
+#define BIRLIMOCK_AT_V 9                                     /* 13 bytes: V, a client */
+#define BIRLIMOCK_AT_H 22                                    /* 13 bytes: H, a client */
+#define BIRLIMOCK_AT_H_KEY 35                                /* 16 bytes: H's dedicated key */
+#define BIRLIMOCK_AT_H_CHALLENGE 51                          /* 8 bytes: the challenge that H drew */
+#define BIRLIMOCK_AT_METER_CHALLENGE 59                      /* 8 bytes: the challenge that H was sent */
+#define BIRLIMOCK_AT_H_ACCEPTED 67                           /* 4 bytes: the last counter accepted of H */
+#define BIRLIMOCK_AT_H_SENT 71                               /* 4 bytes: the last counter sent to H */
+#define BIRLIMOCK_AT_P5 75                                   /* 1 byte: 1 where P5 keeps V from linking */
+#define BIRLIMOCK_AT_DEVICE 76                               /* 16 bytes: device name */
+#define BIRLIMOCK_AT_CLOCK 92                                /* 12 bytes: clock */
+#define BIRLIMOCK_AT_PERIOD 104                              /* 4 bytes: capture period, in seconds */
+#define BIRLIMOCK_AT_RECORD_NUMBER 108                       /* 2 bytes: record number */
+#define BIRLIMOCK_AT_REGISTER_COUNT 110                      /* 8 bytes: how many registers are given */
+#define BIRLIMOCK_AT_REGISTER(i) (118 + 13 * (i))            /* 13 bytes: register i, for i from 0 to 15 */
+#define BIRLIMOCK_AT_COLUMN_COUNT 326                        /* 8 bytes: how many columns are set */
+#define BIRLIMOCK_AT_COLUMN(i) (334 + 6 * (i))               /* 6 bytes: column i, a name, for i from 0 to 15 */
+#define BIRLIMOCK_AT_ROW_COUNT 430                           /* 8 bytes: how many rows there are */
+#define BIRLIMOCK_AT_ROW(i) (438 + 86 * (i))                 /* 86 bytes: row i, newest first, for i from 0 to 14 */
 
 /* Where fields stand in a client. */
-#define BIRLIMOCK_IN_CLIENT_TITLE 0                          /* title */
-#define BIRLIMOCK_IN_CLIENT_LINK 8                           /* flag: its link is up */
-#define BIRLIMOCK_IN_CLIENT_PHASE 9                          /* phase of its association */
-#define BIRLIMOCK_IN_CLIENT_SERVICES 10                      /* services agreed */
+#define BIRLIMOCK_IN_CLIENT_TITLE 0                          /* 8 bytes: title */
+#define BIRLIMOCK_IN_CLIENT_LINK 8                           /* 1 byte: 1 where its link is up */
+#define BIRLIMOCK_IN_CLIENT_PHASE 9                          /* 1 byte: its association: 0 none, 1 pending, 2 associated */
+#define BIRLIMOCK_IN_CLIENT_SERVICES 10                      /* 3 bytes: services agreed */
 
 /* Where fields stand in a register. */
-#define BIRLIMOCK_IN_REGISTER_NAME 0                         /* name */
-#define BIRLIMOCK_IN_REGISTER_RIGHT 6                        /* flag: H may read it */
-#define BIRLIMOCK_IN_REGISTER_SCALER 7                       /* scaler */
-#define BIRLIMOCK_IN_REGISTER_UNIT 8                         /* unit */
-#define BIRLIMOCK_IN_REGISTER_VALUE 9                        /* value */
+#define BIRLIMOCK_IN_REGISTER_NAME 0                         /* 6 bytes: name */
+#define BIRLIMOCK_IN_REGISTER_RIGHT 6                        /* 1 byte: 1 where H may read it */
+#define BIRLIMOCK_IN_REGISTER_SCALER 7                       /* 1 byte: scaler, signed */
+#define BIRLIMOCK_IN_REGISTER_UNIT 8                         /* 1 byte: unit */
+#define BIRLIMOCK_IN_REGISTER_VALUE 9                        /* 4 bytes: value */
 
 /* Where fields stand in a row. */
-#define BIRLIMOCK_IN_ROW_NUMBER 0                            /* record number */
-#define BIRLIMOCK_IN_ROW_CLOCK 2                             /* clock */
-#define BIRLIMOCK_IN_ROW_CELL_COUNT 14                       /* how many cells it has */
-#define BIRLIMOCK_IN_ROW_CELL(j) (22 + 4 * (j))              /* cell j, for j from 0 to 15 */
+#define BIRLIMOCK_IN_ROW_NUMBER 0                            /* 2 bytes: record number */
+#define BIRLIMOCK_IN_ROW_CLOCK 2                             /* 12 bytes: clock */
+#define BIRLIMOCK_IN_ROW_CELL_COUNT 14                       /* 8 bytes: how many cells it has */
+#define BIRLIMOCK_IN_ROW_CELL(j) (22 + 4 * (j))              /* 4 bytes: cell j, for j from 0 to 15 */
 
 /* end of what is made */
 

@@ -16,7 +16,8 @@ fn main() -> ExitCode {
     let done = match &words[..] {
         [] => made().and_then(|files| written(&files)),
         [word] if word == "--check" => made().and_then(|files| checked(&files)),
-        _ => Err("usage: tests/cases/make [--check]".into()),
+        [path] => shown(path),
+        _ => Err("usage: tests/cases/make [--check | FILE]".into()),
     };
     match done {
         Ok(told) => println!("cases: {told}"),
@@ -50,6 +51,22 @@ fn bench() -> Result<[Made; 2], String> {
     each_line(source, |line| exchange.add(line))?;
     let [input, output] = exchange.files();
     Ok([Made { path: "bench/calls", content: input }, Made { path: "bench/answers", content: output }])
+}
+
+/// The lines of a file of cases, each followed by its answer.
+fn shown(path: &str) -> Result<String, String> {
+    let mut exchange = Exchange::begun(path);
+    each_line(path, |line| exchange.add(line))?;
+    let [input, output] = exchange.files();
+    let (input, output) = (String::from_utf8_lossy(&input), String::from_utf8_lossy(&output));
+    let mut answers = output.lines();
+    for line in input.lines().skip(1) {
+        println!("{line}");
+        if !cases::script::is_silent(line.as_bytes()) {
+            println!("    {}", answers.next().unwrap_or_default());
+        }
+    }
+    Ok(format!("{} answers of the second meter", output.lines().count()))
 }
 
 /// The play of the program `day`, and what it prints.

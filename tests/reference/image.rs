@@ -16,7 +16,7 @@ pub const NO_STATE: u8 = 3;
 
 /// Every place of a flag.
 pub fn flag_places() -> Vec<usize> {
-    let rights = (0..AT_REGISTER_TIMES).map(|i| at_register(i) + IN_REGISTER_RIGHT);
+    let rights = (0..REGISTERS).map(|i| at_register(i) + IN_REGISTER_RIGHT);
     [AT_V + IN_CLIENT_LINK, AT_H + IN_CLIENT_LINK, AT_P5].into_iter().chain(rights).collect()
 }
 
@@ -52,9 +52,9 @@ fn meter(reader: &mut Reader) -> Option<Meter> {
         clock: reader.array()?,
         period: reader.number32()?,
         record_number: reader.number16()?,
-        registers: list(reader, AT_REGISTER_TIMES, register)?,
-        columns: list(reader, AT_COLUMN_TIMES, Reader::array)?,
-        rows: list(reader, AT_ROW_TIMES, row)?,
+        registers: list(reader, REGISTERS, register)?,
+        columns: list(reader, COLUMNS, Reader::array)?,
+        rows: list(reader, ROWS, row)?,
     })
 }
 
@@ -100,11 +100,7 @@ fn register(reader: &mut Reader) -> Option<Register> {
 }
 
 fn row(reader: &mut Reader) -> Option<Row> {
-    Some(Row {
-        number: reader.number16()?,
-        clock: reader.array()?,
-        cells: list(reader, IN_ROW_CELL_TIMES, Reader::number32)?,
-    })
+    Some(Row { number: reader.number16()?, clock: reader.array()?, cells: list(reader, CELLS, Reader::number32)? })
 }
 
 /// A count and an array that is there in full: the items that are counted, and the last one again for a count above.
