@@ -109,7 +109,7 @@ extern "C" {
 
 /* end of what is made */
 
-/* Refusals of document 01 (docs/REFUSALS.md has what goes out and what the meter then holds). Frame calls answer 1 to 13 and test 1,
+/* Refusals of document 01 (docs/REFUSALS.md has what is sent, and the meter afterwards). Frame calls answer 1 to 13 and test 1,
  * 2, 3 before the frame; 1 to 7 send nothing. Owner's calls test 3 before their own. */
 #define BIRLIMOCK_ROOM_TOO_SHORT 1      /* too little room for a reply */
 #define BIRLIMOCK_WRONG_SECRETS 2       /* a key or the challenge is not whole */
@@ -175,7 +175,7 @@ uint8_t birlimock_set_columns(uint8_t *state, size_t state_len,
 /* The capture period is set, in seconds. Own refusal: 15, not a multiple of 30 that divides 3600. */
 uint8_t birlimock_set_period(uint8_t *state, size_t state_len, uint32_t period);
 
-/* The clock moves on, and a row is taken where minutes times 60 plus seconds is a multiple of the period: by this second alone, so tick
+/* The meter's clock becomes this one, and a row is taken where minutes times 60 plus seconds is a multiple of the period: by this second alone, so tick
  * once in each second. A due second that no tick names takes no row, and one that two ticks name takes two. The clock's 12 bytes:
  * year (2, high byte first, 2000 to 2099), month, day, FF, hour, minute, second, FF, 80 00 00. Own refusal: 14, other bytes,
  * another number of them, or no real date and time. */
