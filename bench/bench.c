@@ -96,6 +96,7 @@ static void read_call(char *line, FILE *answers, Scene *scene)
     Bytes answer;
     read_answer(answers, &number, &answer);
     if (strcmp(fields[0], "image") == 0) {
+        expect(fields[1] != NULL, "an image", scene->name);
         read_bytes(fields[1], &scene->before);
     } else if (strcmp(fields[0], "dump") == 0) {
         scene->after = answer;
@@ -121,8 +122,10 @@ static void read_scenes(void)
     static char line[4 * MOST_BYTES];
     FILE *calls = fopen("bench/calls", "r"), *answers = fopen("bench/answers", "r");
     expect(calls != NULL && answers != NULL, "a file", "bench/calls, bench/answers");
-    while (next_line(calls, line, sizeof line) != NULL)
+    while (next_line(calls, line, sizeof line) != NULL) {
+        expect(scene_count > 0, "the first heading", "bench/calls");
         read_call(line, answers, &scenes[scene_count - 1]);
+    }
     fclose(calls);
     fclose(answers);
 }

@@ -166,19 +166,18 @@ uint8_t birlimock_give_registers(uint8_t *state, size_t state_len,
 uint8_t birlimock_set_value(uint8_t *state, size_t state_len,
                             const uint8_t *name, size_t name_len, uint32_t value);
 
-/* The columns of the profile are set, from whole names; rows are emptied. H reads every column in the rows, whatever right it has to
- * the register. Own refusal: 18, no whole names, a name that no
- * register bears, a name twice, or more than 16. */
+/* The columns of the profile are set, from whole names; rows are emptied. H reads every column in the rows, whatever right it has
+ * to the register. Own refusal: 18, no whole names, a name that no register bears, a name twice, or more than 16. */
 uint8_t birlimock_set_columns(uint8_t *state, size_t state_len,
                               const uint8_t *names, size_t names_len);
 
 /* The capture period is set, in seconds. Own refusal: 15, not a multiple of 30 that divides 3600. */
 uint8_t birlimock_set_period(uint8_t *state, size_t state_len, uint32_t period);
 
-/* The meter's clock becomes this one, and a row is taken where minutes times 60 plus seconds is a multiple of the period: by this second alone, so tick
- * once in each second. A due second that no tick names takes no row, and one that two ticks name takes two. The clock's 12 bytes:
- * year (2, high byte first, 2000 to 2099), month, day, FF, hour, minute, second, FF, 80 00 00. Own refusal: 14, other bytes,
- * another number of them, or no real date and time. */
+/* The meter's clock becomes this one, and a row is taken where minutes times 60 plus seconds is a multiple of the period: by this
+ * second alone, so tick once in each second. A due second that no tick names takes no row, and one that two ticks name takes two.
+ * The clock's 12 bytes: year (2, high byte first, 2000 to 2099), month, day, FF, hour, minute, second, FF, 80 00 00. Own refusal:
+ * 14, other bytes, another number of them, or no real date and time. */
 uint8_t birlimock_tick(uint8_t *state, size_t state_len,
                        const uint8_t *clock, size_t clock_len);
 

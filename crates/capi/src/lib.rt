@@ -17,9 +17,10 @@ ghost use Rattle.p2.specs.Promise.{lent};
 ghost use Rattle.capi.specs.Promises.{FrameCalled, FrameEnds};
 ghost use Rattle.capi.specs.Version.{libraryVersion};
 
-// The version of the library: first number times 10000, second times 100, third.
+// 1.0.0, in one number.
 const VERSION: u32 = 10000;
 
+// The version of the library.
 #[no_mangle]
 pub extern "C" fn birlimock_version() -> u32
     ensures { λ r. ⌜ r ≡ libraryVersion ⌝ }
