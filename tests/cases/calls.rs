@@ -1,9 +1,11 @@
 //! A call in words as lines of the script program: the owner's words, and frames with what is lent to them.
 
+use crate::clocks::clock;
 use crate::hexadecimal::hex;
 use crate::plug::{self, AUTHENTICATION, GUK, METER_CHALLENGE};
 use crate::script::{digits, VERBS};
-use crate::words::{bytes, number, Words};
+use crate::words::{overlay, Words};
+use reference::clock::Clock;
 use reference::frame::LONGEST_FRAME;
 use reference::image;
 use reference::meter::Meter;
@@ -92,25 +94,19 @@ fn prepared(mut words: Words) -> Result<Vec<String>, String> {
     }
     for n in 1..=rows {
         lines.extend((0..changing).map(|k| format!("value {} {}", name(k), value(k, n))));
-        lines.push(tick(2017, [1, 1], [0, n, 0]));
+        lines.push(tick(&clock("2017-01-01", &format!("0:{n}:0"))?));
     }
     Ok(lines)
 }
 
-fn tick(year: u16, [month, day]: [u8; 2], [hour, minute, second]: [u8; 3]) -> String {
-    let [high, low] = year.to_be_bytes();
-    format!("tick {}", hex(&[high, low, month, day, 0xFF, hour, minute, second, 0xFF, 0x80, 0, 0]))
+fn tick(clock: &Clock) -> String {
+    format!("tick {}", hex(clock))
 }
 
 /// A tick by its date and time of day.
 fn ticked(mut words: Words) -> Result<String, String> {
-    let (date, time) = (words.word("a date")?, words.word("a time of day")?);
-    words.end()?;
-    let (year, day) = date.split_once('-').ok_or("a date is YYYY-MM-DD")?;
-    let parts = |text: &str, separator| text.split(separator).map(number).collect::<Result<Vec<u8>, String>>();
-    let day = parts(day, '-')?.try_into().map_err(|_| "a date is YYYY-MM-DD")?;
-    let time = parts(time, ':')?.try_into().map_err(|_| "a time of day is HH:MM:SS")?;
-    Ok(tick(number(year)?, day, time))
+    let clock = clock(words.word("a date")?, words.word("a time of day")?)?;
+    words.end().map(|()| tick(&clock))
 }
 
 /// The meter's own image with a field changed, handed in.
@@ -121,10 +117,7 @@ fn changed(mut words: Words, meter: &Meter, letters: Letters) -> Result<String, 
     meter.han.sent = words.number_or("sent", meter.han.sent)?;
     let mut image = image::write(&meter, &[0; image::SIZE]);
     if let Some(change) = words.option("at") {
-        let (place, given) = change.split_once(':').ok_or("at takes PLACE:BYTES")?;
-        let (place, given): (usize, Vec<u8>) = (number(place)?, bytes(given)?);
-        let slot = image.get_mut(place..place + given.len()).ok_or("the image ends before that place")?;
-        slot.copy_from_slice(&given);
+        overlay(&mut image, change)?;
     }
     words.end()?;
     Ok(format!("image {}", letters.put(hex(&image))))

@@ -7,6 +7,17 @@ use crate::script::{self, Program};
 use crate::source::{self, Entry, Expected, Step};
 use reference::receive::Outcome;
 
+/// The number of a request that is denied.
+const DENIED: u8 = 13;
+
+/// The result code in a sealed answer that denies a GET or an ACTION.
+fn denial(answer: &Outcome) -> Option<u8> {
+    match answer.sealed.as_ref()?.plain[..] {
+        [0xC4, 0x01, _, 0x01, code] | [0xC7, 0x01, _, code, 0x00] => Some(code),
+        _ => None,
+    }
+}
+
 /// Calls as the script program reads them, and its answers, as far as they are made; and how many lines of both there were at
 /// the last heading.
 pub struct Exchange {
@@ -72,18 +83,25 @@ impl Exchange {
 
     /// Lines that can be read. The last one answers the number that is expected, those before it 0.
     fn answered(&mut self, name: Option<&str>, lines: Vec<String>, expected: Expected) -> Result<(), String> {
-        let Expected::Number(expected) = expected else {
-            return Err("a line that is not a call stands in quotes".into());
+        let (number, code) = match expected {
+            Expected::Number(number) => (number, None),
+            Expected::Code(code) => (DENIED, Some(code)),
+            _ => return Err("a line that is not a call stands in quotes".into()),
         };
         let mut answers = vec![];
         for line in &lines {
             let read = script::read(line).ok_or(format!("this line cannot be read: {line}"))?;
             let answer = self.program.answer(&read);
-            let due = if answers.len() + 1 == lines.len() { expected } else { 0 };
+            let due = if answers.len() + 1 == lines.len() { number } else { 0 };
             if answer.number != due {
                 return Err(format!("the second meter answers {}, not {due}", answer.number));
             }
             answers.push(answer);
+        }
+        if let (Some(due), Some(given)) = (code, answers.last().map(denial)) {
+            if given != Some(due) {
+                return Err(format!("the second meter's result code is {given:?}, not {due}"));
+            }
         }
         self.comment(name, answers.last());
         self.input.extend(lines.into_iter().map(String::into_bytes));
@@ -95,7 +113,7 @@ impl Exchange {
     fn quoted(&mut self, name: Option<&str>, line: Vec<u8>, expected: Expected) -> Result<(), String> {
         let text = std::str::from_utf8(&line).ok();
         match expected {
-            Expected::Number(_) => {
+            Expected::Number(_) | Expected::Code(_) => {
                 let text = text.ok_or("this line is no text")?.into();
                 return self.answered(name, vec![text], expected);
             }

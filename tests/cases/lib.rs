@@ -2,6 +2,7 @@
 
 pub mod calls;
 pub mod client;
+pub mod clocks;
 pub mod exchange;
 pub mod hexadecimal;
 pub mod night;

@@ -9,6 +9,7 @@ use crate::table;
 use reference::aes::Block;
 use reference::envelope::Sender;
 use reference::library::Call;
+use reference::meter::Row;
 use reference::receive::Outcome;
 use std::collections::HashMap;
 
@@ -60,6 +61,8 @@ pub struct Night {
     /// Frames that were sent, by what was asked.
     sent: HashMap<String, Vec<u8>>,
     answer: Outcome,
+    /// The rows that the display has read last.
+    kept: Vec<Row>,
     told: bool,
     printed: String,
 }
@@ -74,6 +77,7 @@ impl Night {
             challenge: vec![],
             sent: HashMap::new(),
             answer,
+            kept: vec![],
             told: false,
             printed: String::new(),
         }
@@ -107,7 +111,7 @@ impl Night {
             (b'?', [_, asked, words]) => self.ask(asked, words)?,
             (b'!', [_, challenge]) => self.lend(challenge, line)?,
             (b'%', [_, words, otherwise, kind]) => self.hear(words, otherwise, kind)?,
-            (b'*', [_]) => self.print(&table::of(&self.now.meter.meter().rows), line),
+            (b'*', [_]) => self.print(&table::of(&self.kept), line),
             (b':', [_, words, _, number]) if unhex(number) == Some(vec![self.answer.number]) => self.print(words, line),
             (b'/', [_, words]) => self.print(words, line),
             (b'$', [_, words, otherwise]) => self.print(if self.told { otherwise } else { words }, line),
@@ -189,14 +193,17 @@ impl Night {
     }
 
     /// What the display waits for is what the second meter has answered: all of it, or its beginning and the text of an
-    /// envelope.
+    /// envelope. Any text will do where it is kept for its rows.
     fn hear(&mut self, words: &str, otherwise: &str, kind: &str) -> Result<String, String> {
         let inside = self.answer.reply[1..self.answer.reply.len() - 1].to_vec();
         let (place, tag, bytes) = match kind.split_once(' ') {
             None if kind == "whole" => (inside.len(), String::new(), inside),
             Some((kind @ ("sealed" | "kept"), tag)) => {
-                let (place, text) = self.opened(&inside, tag)?;
-                let text = if kind == "kept" { vec![] } else { text };
+                let (place, mut text) = self.opened(&inside, tag)?;
+                if kind == "kept" {
+                    self.kept = table::rows_in(&text).ok_or("what is kept is an answer with rows")?;
+                    text.clear();
+                }
                 (place, tag.to_string(), [&inside[..place], &text].concat())
             }
             _ => return Err("an answer is whole, sealed TAG or kept TAG".into()),

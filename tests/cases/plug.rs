@@ -1,9 +1,11 @@
 //! What clients do at the plug, in words: the frames that a call of V or H stands for.
 
 use crate::client::{self, proof_request, Han, Proposal, CHALLENGE_ANSWER, SEALED_ACTION, SEALED_GET};
-use crate::words::{bytes, number, range, Words};
+use crate::clocks;
+use crate::words::{bytes, number, overlay, range, Words};
 use reference::acse::RELEASE_REQUEST;
 use reference::aes::Block;
+use reference::bytes::part;
 use reference::check::sent_check;
 use reference::envelope::{Challenge, Title};
 use reference::frame::{HAN, LINK_DOWN, LINK_UP, VERIFICATION};
@@ -27,6 +29,13 @@ const LEAST_SIZE: u16 = 768;
 const GET: u8 = 0xC0;
 const ACTION: u8 = 0xC3;
 const INVOKE: u8 = 0xC1;
+
+/// The selectors of rows: by date, and by their places.
+const RANGE: u8 = 1;
+const ENTRIES: u8 = 2;
+
+/// The clock as a column, by which a range restricts: class 8, its name, attribute 2, index 0.
+const CLOCK_COLUMN: [u8; 18] = [2, 4, 0x12, 0, 8, 9, 6, 0, 0, 1, 0, 0, 0xFF, 0x0F, 2, 0x12, 0, 0];
 
 /// The frames of V's words.
 pub fn verification(mut words: Words, meter: &Meter) -> Result<Vec<Vec<u8>>, String> {
@@ -208,23 +217,45 @@ impl Plug<'_> {
         let number: u8 = self.words.number("the attribute or method")?;
         let [invoke] = self.words.array_or("invoke", [INVOKE])?;
         let head = [&[service, 0x01, invoke], &class.to_be_bytes()[..], &name, &[number]].concat();
-        let addition = match (self.words.bytes("with")?, self.words.option("entries")) {
-            (Some(_), Some(_)) => return Err("with and entries exclude each other".into()),
-            (Some(with), None) => [&[0x01], &with[..]].concat(),
-            (None, Some(entries)) => [&[0x01], &self.selection(entries)?[..]].concat(),
-            (None, None) => vec![0x00],
-        };
-        Ok([head, addition].concat())
+        Ok([head, self.addition()?].concat())
+    }
+
+    /// What stands behind the attribute or method: nothing, or these bytes, entries or a range.
+    fn addition(&mut self) -> Result<Vec<u8>, String> {
+        let given = [self.words.bytes("with")?, self.entries()?, self.range()?];
+        match &given.into_iter().flatten().collect::<Vec<_>>()[..] {
+            [] => Ok(vec![0x00]),
+            [addition] => Ok([&[0x01], &addition[..]].concat()),
+            _ => Err("with, entries and from exclude each other".into()),
+        }
     }
 
     /// An entry selection: its selector, then from and to, of the entries and of the columns.
-    fn selection(&mut self, entries: &str) -> Result<Vec<u8>, String> {
+    fn entries(&mut self) -> Result<Option<Vec<u8>>, String> {
+        let Some(entries) = self.words.option("entries") else { return Ok(None) };
         let (from, to): (u32, u32) = range(entries)?;
         let (first, last): (u16, u16) = self.words.option("columns").map_or(Ok((1, 0)), range)?;
-        let selector: u8 = self.words.number_or("selector", 1)?;
+        let selector: u8 = self.words.number_or("selector", ENTRIES)?;
         let entries = [&[0x06], &from.to_be_bytes()[..], &[0x06], &to.to_be_bytes()].concat();
         let columns = [&[0x12], &first.to_be_bytes()[..], &[0x12], &last.to_be_bytes()].concat();
-        Ok([vec![selector, 0x02, 0x04], entries, columns].concat())
+        Ok(Some([vec![selector, 0x02, 0x04], entries, columns].concat()))
+    }
+
+    /// A range: its selector, then the column that restricts, from, to and the columns that are picked, none if nothing is
+    /// said.
+    fn range(&mut self) -> Result<Option<Vec<u8>>, String> {
+        let Some(from) = self.words.option("from") else { return Ok(None) };
+        let to = self.words.option("to").ok_or("to is missing")?;
+        let string = |end| clocks::end(end, &self.meter.clock).map(|end| part(0x09, &end));
+        let (from, to) = (string(from)?, string(to)?);
+        let object = self.words.bytes("object")?.unwrap_or(CLOCK_COLUMN.into());
+        let picked = self.words.bytes("picked")?.unwrap_or(vec![0x01, 0x00]);
+        let mut descriptor = [vec![0x02, 0x04], object, from, to, picked].concat();
+        if let Some(change) = self.words.option("at") {
+            overlay(&mut descriptor, change)?;
+        }
+        let selector: u8 = self.words.number_or("selector", RANGE)?;
+        Ok(Some([vec![selector], descriptor].concat()))
     }
 }
 

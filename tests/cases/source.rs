@@ -7,6 +7,8 @@ use crate::hexadecimal::unhex;
 pub enum Expected {
     /// The second meter answers this number.
     Number(u8),
+    /// The second meter denies the request, in an envelope, by this result code.
+    Code(u8),
     /// The line cannot be read from this column on.
     Column(usize),
     /// A comment: no answer.
@@ -56,12 +58,14 @@ fn expectation(text: &str) -> Result<(&str, Expected), String> {
     let behind_quotes = text.rfind('"').map_or(0, |last| last + 1);
     let Some(at) = text[behind_quotes..].rfind(" > ") else { return Ok((text, Expected::Number(0))) };
     let (call, wanted) = (&text[..behind_quotes + at], text[behind_quotes + at + 3..].trim());
-    let expected = match wanted.strip_prefix("? ") {
-        _ if wanted == "nothing" => Some(Expected::Nothing),
-        Some(column) => column.parse().ok().map(Expected::Column),
+    let expected = match wanted.split_once(' ') {
+        None if wanted == "nothing" => Some(Expected::Nothing),
         None => wanted.parse().ok().map(Expected::Number),
+        Some(("code", code)) => code.parse().ok().map(Expected::Code),
+        Some(("?", column)) => column.parse().ok().map(Expected::Column),
+        Some(_) => None,
     };
-    Ok((call, expected.ok_or(format!("\"{wanted}\" is no number, `? COLUMN` or `nothing`"))?))
+    Ok((call, expected.ok_or(format!("\"{wanted}\" is no number, `code CODE`, `? COLUMN` or `nothing`"))?))
 }
 
 /// The bytes of a line in quotes: pieces `"TEXT"` or `COUNT*"TEXT"`.

@@ -89,6 +89,15 @@ pub fn range<T: FromStr>(text: &str) -> Result<(T, T), String> {
     Ok((number(from)?, number(to)?))
 }
 
+/// Other bytes at a place, counted from 0: `PLACE:BYTES`.
+pub fn overlay(target: &mut [u8], change: &str) -> Result<(), String> {
+    let (place, given) = change.split_once(':').ok_or("at takes PLACE:BYTES")?;
+    let (place, given): (usize, Vec<u8>) = (number(place)?, bytes(given)?);
+    let slot = target.get_mut(place..place + given.len()).ok_or("the bytes end before that place")?;
+    slot.copy_from_slice(&given);
+    Ok(())
+}
+
 /// Bytes: pieces with `+` between them, each pairs of digits or `COUNT*PAIRS`; a dash for none.
 pub fn bytes(text: &str) -> Result<Vec<u8>, String> {
     Ok(text.split('+').map(piece).collect::<Result<Vec<_>, _>>()?.concat())

@@ -1,9 +1,9 @@
 //! Compares the static library with the second meter, call by call. Prints what the run met; exit status 1 where something
 //! differs.
 //!
-//! compare CALLS SEED FOLDER makes so many calls at random; the folder gets replies for other programs to read, and a number
-//! that can be answered and never was is a difference, too. compare --replay INPUT OUTPUT goes through the script program's
-//! cases.
+//! compare CALLS SEED FOLDER makes so many calls at random; the folder gets replies for other programs to read, and what can
+//! be answered and never was, a number or what a read by date comes to, is a difference, too. compare --replay INPUT OUTPUT
+//! goes through the script program's cases.
 
 mod bench;
 mod bits;
@@ -13,6 +13,7 @@ mod opening;
 mod owner;
 mod player;
 mod random;
+mod ranges;
 mod replay;
 mod run;
 mod samples;

@@ -4,6 +4,7 @@
 use crate::damage::{changed, stray, Parts};
 use crate::opening;
 use crate::random::Random;
+use crate::ranges::range;
 use crate::states::{counter, object};
 use crate::values::{entries, value};
 use reference::acse::RELEASE_REQUEST;
@@ -16,6 +17,8 @@ use reference::request::Name;
 
 const GET: u8 = 0xC0;
 const ACTION: u8 = 0xC3;
+const RANGE: u8 = 1;
+const ENTRIES: u8 = 2;
 
 pub struct Player<'a> {
     pub random: &'a mut Random,
@@ -195,6 +198,7 @@ impl Player<'_> {
         let (name, class) = match wanted {
             Some(name) => (name, 1),
             None if service == ACTION && self.random.percent(60) => (RECORD_NUMBER, 3),
+            None if service == GET && self.random.percent(30) => (PROFILE, 7),
             None => object(self.random, self.meter),
         };
         let any = self.random.byte();
@@ -210,17 +214,21 @@ impl Player<'_> {
         [head, addition].concat()
     }
 
-    /// What stands behind the attribute of a GET: nothing, or a selector.
+    /// What stands behind the attribute of a GET: nothing, or a selector. Its number is most times that of its descriptor.
     fn selector(&mut self, name: Name) -> Vec<u8> {
         let (rows, columns) = (self.meter.rows.len(), self.meter.columns.len());
-        let number = self.random.pick(&[1, 1, 2, 0]);
-        match self.random.below(20) {
-            0 => vec![self.random.byte()],
-            1..=2 => [&[0x01, number], &value(self.random)[..]].concat(),
-            3 => [&[0x01, number], &entries(self.random, rows, columns)[..]].concat(),
-            4..=11 if name == PROFILE => [&[0x01, 0x01], &entries(self.random, rows, columns)[..]].concat(),
-            _ => vec![0x00],
-        }
+        let any = self.random.byte();
+        let number = self.random.pick(&[0, 1, 2, 3, any]);
+        let (number, descriptor) = match self.random.below(20) {
+            0 => return vec![any],
+            1..=2 => (number, value(self.random)),
+            3 => (number, entries(self.random, rows, columns)),
+            4 => (number, range(self.random, self.meter)),
+            5..=8 if name == PROFILE => (ENTRIES, entries(self.random, rows, columns)),
+            9..=14 if name == PROFILE => (RANGE, range(self.random, self.meter)),
+            _ => return vec![0x00],
+        };
+        [&[0x01, number], &descriptor[..]].concat()
     }
 
     /// What stands behind the method of an ACTION: nothing, or a parameter.

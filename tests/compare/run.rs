@@ -58,7 +58,7 @@ impl Run {
             7 => (random.bytes(SIZE), 120),
             8..=10 => {
                 let meter = states::readable(random);
-                (states::image(random, &meter), 20)
+                (states::image(random, &meter), 40)
             }
             _ => {
                 let meter = states::sound(random);

@@ -2,7 +2,7 @@
 //! no state. Names come from a small pool, so that lists meet.
 
 use crate::random::Random;
-use reference::clock::{days_in, is_due, Clock};
+use reference::clock::{days_in, is_due, moment, Clock};
 use reference::image::{self, SIZE};
 use reference::layout;
 use reference::meter::{self, Ciphered, Han, Meter, Plain, Register, Row, Verification, MOST_ROWS, OWN_NAMES};
@@ -66,9 +66,31 @@ pub fn clock(random: &mut Random, period: u32) -> Clock {
     [high, low, month, day, 0xFF, hour, (second / 60) as u8, (second % 60) as u8, 0xFF, 0x80, 0, 0]
 }
 
+/// The first second after the last year that a clock may have.
+const END_OF_CLOCKS: u64 = 36525 * 86400;
+
+/// The clock that is so many seconds later than this one; it stays within the years that a clock may have.
+pub fn shifted(clock: &Clock, seconds: i64) -> Clock {
+    let shifted = moment(clock).saturating_add_signed(seconds).min(END_OF_CLOCKS - 1);
+    let (mut days, second) = (shifted / 86400, shifted % 86400);
+    let (mut year, mut month) = (2000, 1);
+    while days >= u64::from(days_in(year, month)) {
+        days -= u64::from(days_in(year, month));
+        (year, month) = if month == 12 { (year + 1, 1) } else { (year, month + 1) };
+    }
+    let [high, low] = year.to_be_bytes();
+    let [hour, minute, second] = [second / 3600, second / 60 % 60, second % 60].map(|part| part as u8);
+    [high, low, month, days as u8 + 1, 0xFF, hour, minute, second, 0xFF, 0x80, 0, 0]
+}
+
 /// A clock that is wrong in one field.
 pub fn wrong_clock(random: &mut Random) -> Clock {
-    let mut clock = clock(random, 60);
+    let clock = clock(random, 60);
+    broken(random, clock)
+}
+
+/// This clock with one field wrong.
+pub fn broken(random: &mut Random, mut clock: Clock) -> Clock {
     let leap_day = 29 + u8::from(clock[1] % 4 == 0);
     let (place, bytes) = match random.below(12) {
         0 => (0, vec![0x07, 0xCF]),
@@ -133,8 +155,30 @@ fn services(random: &mut Random, offered: [u8; 3]) -> [u8; 3] {
     }
 }
 
-fn row(random: &mut Random, period: u32, number: u16, columns: usize) -> Row {
-    Row { number, clock: clock(random, period), cells: (0..columns).map(|_| random_value(random)).collect() }
+/// So many rows, the first of them with this number.
+fn rows(random: &mut Random, period: u32, number: u16, columns: usize, count: usize) -> Vec<Row> {
+    let clocks = row_clocks(random, period, count);
+    let mut cells = || (0..columns).map(|_| random_value(random)).collect();
+    let numbered = (0..count as u16).map(|i| number.wrapping_sub(i)).zip(clocks);
+    numbered.map(|(number, clock)| Row { number, clock, cells: cells() }).collect()
+}
+
+/// Clocks of rows, the newest first: any, or a period apart, where it may be that the clock was set back on the way or that
+/// a second came twice.
+fn row_clocks(random: &mut Random, period: u32, count: usize) -> Vec<Clock> {
+    let kind = random.below(10);
+    let period = i64::from(period);
+    let mut clocks = vec![];
+    let mut next = clock(random, period as u32);
+    for _ in 0..count {
+        clocks.push(next);
+        next = match kind {
+            0..=2 => clock(random, period as u32),
+            3..=5 => shifted(&next, -period),
+            _ => shifted(&next, random.pick(&[-period, -period, -period, 0, period, 3 * period, -1, 1])),
+        };
+    }
+    clocks
 }
 
 /// A sound meter in any state; H is often associated.
@@ -148,8 +192,7 @@ pub fn sound(random: &mut Random) -> Meter {
     let record_number: u16 = random.pick(&[0, 1, 65533, 65534, 65535, 500]);
     let any = random.between(0, MOST_ROWS);
     let row_count = random.pick(&[0, 1, 10, any, any, MOST_ROWS - 1, MOST_ROWS, MOST_ROWS]);
-    let rows = (0..row_count).map(|i| row(random, period, record_number.wrapping_sub(i as u16), columns.len()));
-    let rows = rows.collect();
+    let rows = rows(random, period, record_number, columns.len(), row_count);
     Meter {
         title: random.field(),
         verification: verification(random),
@@ -191,7 +234,7 @@ pub fn readable(random: &mut Random) -> Meter {
     let column_count = random.between(0, MOST_COLUMNS);
     meter.columns = columns(random, &meter.registers, column_count);
     let row_count = random.between(0, MOST_ROWS);
-    meter.rows = (0..row_count).map(|i| row(random, meter.period, i as u16, column_count)).collect();
+    meter.rows = rows(random, meter.period, meter.record_number, column_count, row_count);
     meter.han.linked = true;
     meter.han.association = Ciphered::Associated { agreed: OFFERED_CIPHERED, key: random.field() };
     meter

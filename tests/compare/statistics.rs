@@ -1,8 +1,9 @@
-//! What a run met: each number, each event, deep states, and unsound states by clause.
+//! What a run met: each number, each event, deep states, rows by date, and unsound states by clause.
 
+use reference::clock::moment;
 use reference::library::{Call, State};
-use reference::meter::{Ciphered, MOST_ROWS};
-use reference::receive::Outcome;
+use reference::meter::{Ciphered, Meter, MOST_ROWS};
+use reference::receive::{Outcome, BY_DATE};
 use reference::soundness::{Clause, CLAUSES};
 use std::collections::BTreeMap;
 
@@ -21,6 +22,20 @@ pub struct Statistics {
     frames_while_pending: usize,
     frames_with_all_rows: usize,
     frames_near_counter_ends: usize,
+    by_date_where: BTreeMap<&'static str, usize>,
+}
+
+/// How the clocks of a meter's rows can stand to each other, from one row to the next newer one.
+const ORDERS: [&str; 3] = ["clocks that only rise", "a clock that went back", "a second that came twice"];
+
+/// Which of them are met in this meter.
+fn orders(meter: &Meter) -> impl Iterator<Item = &'static str> {
+    let moments: Vec<u64> = meter.rows.iter().map(|row| moment(&row.clock)).collect();
+    let back = moments.windows(2).any(|pair| pair[0] < pair[1]);
+    let twice = moments.windows(2).any(|pair| pair[0] == pair[1]);
+    let [rising, back_there, twice_there] = ORDERS;
+    let found = [(!back && !twice, rising), (back, back_there), (twice, twice_there)];
+    found.into_iter().filter(|(met, _)| *met).map(|(_, order)| order)
 }
 
 impl Statistics {
@@ -41,6 +56,9 @@ impl Statistics {
         self.frames_while_pending += usize::from(matches!(meter.han.association, Ciphered::Pending { .. }));
         self.frames_with_all_rows += usize::from(meter.rows.len() == MOST_ROWS);
         self.frames_near_counter_ends += usize::from(near_end(meter.han.accepted) || near_end(meter.han.sent));
+        if outcome.number == 0 && BY_DATE.contains(&outcome.event) && meter.rows.len() > 1 {
+            orders(meter).for_each(|order| *self.by_date_where.entry(order).or_default() += 1);
+        }
     }
 
     pub fn print(&self) {
@@ -54,6 +72,9 @@ impl Statistics {
         println!("{:>9}  frame calls while H was pending", self.frames_while_pending);
         println!("{:>9}  frame calls with fifteen rows", self.frames_with_all_rows);
         println!("{:>9}  frame calls with a counter within 200 of an end", self.frames_near_counter_ends);
+        for (order, count) in &self.by_date_where {
+            println!("{count:>9}  reads of rows by date granted, with {order}");
+        }
         for clause in CLAUSES {
             println!("{:>9}  calls on a state unsound by {clause:?}", self.unsound_by(clause));
         }
@@ -63,11 +84,19 @@ impl Statistics {
         self.unsound.get(&clause).copied().unwrap_or(0)
     }
 
-    /// What never occurred though a run should meet it: numbers, and clauses of unsoundness.
+    fn met(&self, event: &str) -> bool {
+        self.events.keys().any(|&(_, met)| met == event)
+    }
+
+    /// What never occurred though a run should meet it: numbers, clauses of unsoundness, and what rows by date come to.
     pub fn missing(&self) -> Vec<String> {
         let numbers = all_numbers().filter(|number| !self.numbers.contains_key(number));
         let clauses = CLAUSES.into_iter().filter(|&clause| self.unsound_by(clause) == 0);
+        let by_date = BY_DATE.into_iter().filter(|event| !self.met(event)).map(String::from);
+        let orders = ORDERS.into_iter().filter(|order| !self.by_date_where.contains_key(order));
         let numbers = numbers.map(|number| format!("number {number}"));
-        numbers.chain(clauses.map(|clause| format!("a state unsound by {clause:?}"))).collect()
+        let clauses = clauses.map(|clause| format!("a state unsound by {clause:?}"));
+        let orders = orders.map(|order| format!("rows by date with {order}"));
+        numbers.chain(clauses).chain(by_date).chain(orders).collect()
     }
 }

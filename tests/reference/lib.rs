@@ -1,7 +1,9 @@
-//! A second meter, written from document 01 and the standards it names, to be held against the library call by call.
+//! A second meter, written from document 01, the change requests and the standards, to be held against the library call
+//! by call.
 //!
 //! It shares no code with the project's crates and goes other ways where there is a choice: values are trees, envelopes
-//! and frames are built in vectors, the substitution of AES is worked out, the check and the field product go bit by bit.
+//! and frames are built in vectors, the substitution of AES is worked out, the check and the field product go bit by bit,
+//! clocks are compared by their bytes.
 
 pub mod acse;
 pub mod aes;

@@ -273,8 +273,12 @@ impl Meter {
         };
         let result = objects::ciphered_read(self, &get, agreed[2] & SELECTIVE_BIT != 0);
         let answer = request::get_answer(get.target.invoke, &result);
-        let granted = if get.selector.is_some() { "entries of H granted" } else { "read of H granted" };
-        self.sealed_answer(0xD4, keys, key, answer, judged(&result, granted))
+        let verdict = match get.selector {
+            None => judged(&result, "read of H granted"),
+            Some(_) if objects::is_by_date(&get) => judged_by_date(&result, self.rows.len()),
+            Some(_) => judged(&result, "entries of H granted"),
+        };
+        self.sealed_answer(0xD4, keys, key, answer, verdict)
     }
 
     fn sealed_action(&mut self, apdu: &[u8], keys: &Keys, key: Block) -> Outcome {
@@ -352,6 +356,30 @@ fn judged<T>(result: &Result<T, u8>, granted: &'static str) -> (u8, &'static str
         Err(12) => (13, "code 12, parameter of another shape"),
         Err(13) => (13, "code 13, entries wrong"),
         Err(_) => (13, "code 250, answer too long"),
+    }
+}
+
+/// What reads of rows by date can come to, once the profile is found.
+pub const BY_DATE: [&str; 6] = [
+    "rows by date, some of them",
+    "rows by date, all of them",
+    "rows by date, none of them",
+    "rows by date, code 12, another shape",
+    "rows by date, code 13, clocks wrong",
+    "rows by date, code 250, answer too long",
+];
+
+/// The number of a read of rows by date, where so many are kept, and what it came to.
+fn judged_by_date(result: &Result<Value, u8>, kept: usize) -> (u8, &'static str) {
+    let [some, all, none, shape, clocks, length] = BY_DATE;
+    match result {
+        Ok(Value::Array(rows)) if rows.is_empty() => (0, none),
+        Ok(Value::Array(rows)) if rows.len() == kept => (0, all),
+        Ok(_) => (0, some),
+        Err(12) => (13, shape),
+        Err(13) => (13, clocks),
+        Err(250) => (13, length),
+        Err(_) => judged(result, ""),
     }
 }
 

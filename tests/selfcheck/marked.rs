@@ -76,7 +76,7 @@ fn selected(from: u32, to: u32) -> Result<Vec<u16>, u8> {
     meter.rows = (1..=15).map(|number| Row { number, clock: meter.clock, cells: vec![] }).collect();
     let descriptor =
         [&hex("020406")[..], &from.to_be_bytes(), &[0x06], &to.to_be_bytes(), &hex("120001120000")].concat();
-    let request = [&hex("C001C100070000150006FF020101")[..], &descriptor].concat();
+    let request = [&hex("C001C100070000150006FF020102")[..], &descriptor].concat();
     let get = reference::request::read_get(&request).unwrap();
     let Value::Array(rows) = reference::objects::ciphered_read(&meter, &get, true)? else { panic!("no array") };
     Ok(rows.iter().map(|row| u16::from_be_bytes([row.bytes()[3], row.bytes()[4]])).collect())

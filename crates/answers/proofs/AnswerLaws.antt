@@ -7,7 +7,8 @@ use lib.ListN.{length}
 use Rattle.wire.specs.Wrote.{Wrote}
 use Rattle.model.specs.Limits.{longestSent, dataRoom}
 use Rattle.model.specs.State.{Body}
-use Rattle.model.specs.Objects.{Meaning, known, unknown, Selection, Parameter, get, action, Request, granted, denied, attributeRead, methodInvoked, afterAction, answered}
+use Rattle.model.specs.Selecting.{Selection}
+use Rattle.model.specs.Objects.{Meaning, known, unknown, Parameter, get, action, Request, granted, denied, attributeRead, methodInvoked, afterAction, answered}
 use Rattle.model.proofs.LimitFacts.{data-room, text-room}
 use Rattle.body.specs.View.{bodyOf}
 use Rattle.answers.specs.declared.Turned.{Turned}

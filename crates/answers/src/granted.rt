@@ -19,19 +19,19 @@ ghost use Rattle.wire.specs.Wrote.{Wrote};
 ghost use Rattle.model.specs.Objects.{simpleData};
 ghost use Rattle.body.specs.View.{bodyOf, bodySound};
 ghost use Rattle.objects.specs.Meanings.{plainAs};
-ghost use Rattle.results.specs.Results.{dataAs, dataWithin};
+ghost use Rattle.results.specs.Results.{dataAs};
 
 // Data of any kind.
 pub fn put_data(out: &mut [u8], at: usize, d: Data, name: Name, body: BodyState) -> usize
-    requires { ⌜ (bodySound (bodyOf body) ≡ true) × dataWithin (body .rows .count) d × (at + length (dataAs name (bodyOf body) d) ≤ length (now out)) ⌝ }
+    requires { ⌜ (bodySound (bodyOf body) ≡ true) × (at + length (dataAs name (bodyOf body) d) ≤ length (now out)) ⌝ }
     ensures { λ r. ⌜ Wrote (now (out .entry)) at (now (out .exit)) r (dataAs name (bodyOf body) d) ⌝ }
 {
     match d {
         Data::Name => put_name(out, at, name),
         Data::Plain(x) => put_plain(out, at, x, body),
-        Data::Rows { first, count } => {
+        Data::Rows { which } => {
             let rows = body.rows;
-            put_rows(out, at, rows, first, count)
+            put_rows(out, at, rows, which)
         }
         Data::RecordNumber => put_unsigned16(out, at, body.number),
         Data::Value(value) => put_unsigned32(out, at, value),

@@ -1,6 +1,9 @@
-// Clocks and capture periods: when a clock is valid, which periods are permitted, when a capture is due. specs/ of the crate
-// model says what each means.
+// Clocks and capture periods: when a clock is valid, which moment it names, which periods are permitted, when a capture is due.
+// specs/ of the crate model says what each means.
+mod order;
+
 use model::Clock;
+pub use order::moment;
 ghost use mathlib.Core.Path.{_≡_};
 ghost use Prim.Native.Nat.{_<_, _≤_};
 ghost use Rattle.model.specs.Clocks.{between, daysIn, februaryDays, fixedBytes, realDate, realTime, validClock};

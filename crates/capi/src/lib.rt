@@ -17,8 +17,8 @@ ghost use Rattle.p2.specs.Promise.{lent};
 ghost use Rattle.capi.specs.Promises.{FrameCalled, FrameEnds};
 ghost use Rattle.capi.specs.Version.{libraryVersion};
 
-// 1.0.0, in one number.
-const VERSION: u32 = 10000;
+// 2.0.0, in one number.
+const VERSION: u32 = 20000;
 
 // The version of the library.
 #[no_mangle]

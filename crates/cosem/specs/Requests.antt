@@ -18,7 +18,8 @@ use Rattle.wire.specs.Reading.{expected, filled, numberAt, thenAt, thenField}
 use Rattle.axdr.specs.Values.{valueEnd}
 use Rattle.model.specs.declared.Client.{Client}
 use Rattle.model.specs.declared.Name.{Name}
-use Rattle.model.specs.Objects.{Request, Service, get, action, all, selected, absent, present}
+use Rattle.model.specs.Selecting.{all, selected}
+use Rattle.model.specs.Objects.{Request, Service, get, action, absent, present}
 use Rattle.cosem.specs.declared.ServiceKind.{ServiceKind}
 use Rattle.cosem.specs.declared.ServiceKind.the-variants.{Get, Set, Action}
 use Rattle.cosem.specs.declared.Part.{Part}

@@ -4,12 +4,14 @@ mod request;
 mod shapes;
 mod tags;
 
+use model::Clock;
 pub use request::name_in;
 pub use request::read_action;
 pub use request::read_get;
 pub use request::read_service;
 pub use shapes::entries_at;
 pub use shapes::is_integer_at;
+pub use shapes::range_at;
 pub use shapes::rest_of;
 pub use tags::answer_tag;
 pub use tags::dedicated_tag;
@@ -92,4 +94,11 @@ pub enum Entries {
         to_column: u32,
     },
     Other,
+}
+
+// The clocks of a range descriptor, each from its place; and whether the value is one.
+pub struct Range {
+    pub described: bool,
+    pub from: Clock,
+    pub to: Clock,
 }

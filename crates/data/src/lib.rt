@@ -9,7 +9,8 @@ ghost use mathlib.Core.List.{_∷_};
 ghost use Prim.Native.Nat.{_+_, _≤_};
 ghost use lib.ListN.{drop, length, take};
 ghost use Rattle.wire.specs.Wrote.{Wrote, WroteArray};
-ghost use Rattle.model.specs.Objects.{clockData, nameData, scalerUnit, unsigned16, unsigned32};
+ghost use Rattle.model.specs.Clocks.{clockData};
+ghost use Rattle.model.specs.Objects.{nameData, scalerUnit, unsigned16, unsigned32};
 
 pub fn put_name(out: &mut [u8], at: usize, name: Name) -> usize
     requires { ⌜ at + 8 ≤ length (now out) ⌝ }

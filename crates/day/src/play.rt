@@ -196,6 +196,22 @@ pub fn home_display(s: Scene) -> Scene {
         %||       The home display stops here: a sealed answer does not open.|0A|D4|A19D270313FBCCE6E700\n\
         ?|   the reactive energy                           |7EA02C032713919EE6E600D01E30000000CC087804F669F8B903646FECB26C2533881D8047DCDEC7F427A4E87F7E\n\
         %|       The sealed answer is code 3; 3 means that the display has no right to it.|       The home display stops here: a sealed answer does not open, or is another one.|0A|D4|A024270313405FE6E700C401C10103\n\
+        >\n\
+        >3. The rows as the home display has read them, the oldest first\n\
+        >\n\
+        >   record   date         time       imported, day     imported, night          exported\n\
+        >   number                                rate kWh            rate kWh               kWh\n\
+        *\n\
+        >\n\
+        >4. What of the hour from two to three? The home display asks by date\n\
+        >\n\
+        >   Each quarter of an hour ends with its row, so that this hour has those later than 02:00 and not later than\n\
+        >   03:00. The clock showed half past two twice, and both rows are there. Record 6 is not: its quarter ended as\n\
+        >   the clock was set back, so that its row bears 02:00 and belongs to the hour before.\n\
+        >\n\
+        >   asked                                          answer of the meter                             tells of values\n\
+        ?|   the rows after 02:00, up to 03:00             |7EA05F03271319E1E6E600D05130000000CDE5CB0B2F68FA8B491981E2528105E41F77A174D14E3C17DCFCF09B4B3669CEA96EF106A58B1E629B2A6CD1950BF417DDDFAAFD2D5E761D1B6537B9EB6FE081293388B07C8710CA0439427947899E7E\n\
+        %||       The home display stops here: a sealed answer does not open.|0A|D4|A1152703134D04E6E700\n\
         ",
     )
 }
@@ -209,8 +225,6 @@ pub fn leaving(s: Scene) -> Scene {
         ?|   the end of the link                           |7EA007032753D3937E\n\
         %||       The home display stops here: the meter does not confirm the link.|07||A007270373D896\n\
         >\n\
-        >3. The rows as the home display has read them, the oldest first\n\
-        >\n\
         >   record   date         time       imported, day     imported, night          exported\n\
         >   number                                rate kWh            rate kWh               kWh\n\
         *\n\
@@ -223,7 +237,7 @@ pub fn stranger(s: Scene) -> Scene {
         s,
         b"\
         >\n\
-        >4. A stranger without keys, who has recorded every frame of the home display\n\
+        >5. A stranger without keys, who has recorded every frame of the home display\n\
         >\n\
         >   Within an association each sealed request has a counter, which has to be above the last one accepted, by\n\
         >   180 at most; else the meter is silent and the association ends. The request for an association is free of\n\
@@ -234,7 +248,7 @@ pub fn stranger(s: Scene) -> Scene {
         >\n\
         >   asked                                          answer of the meter                             tells of values\n\
         !|910C5EA2337BD804\n\
-        ?|   the rows, sealed with keys of its own         |7EA02C032713919EE6E600D01E30000000CDEF580A5AFE526EEBBEAD79AAB08BA7155811B33C5C313E9C983C317E\n\
+        ?|   the rows, sealed with keys of its own         |7EA02C032713919EE6E600D01E30000000CE8D00BA7BE7916ACB477A59527EA3F32410BA4E5F0640287E0965907E\n\
         ?|   the rows, by the recorded frame               |7EA02C032713919EE6E600D01E30000000CBB6DE6918A5AFC202E4A19F388C968DD127BE2D7704ED5C3DC428FD7E\n\
         ",
     )
@@ -252,7 +266,7 @@ pub fn stranger_again(s: Scene) -> Scene {
         ?|   the rows, by the recorded frame               |7EA02C032713919EE6E600D01E30000000CBB6DE6918A5AFC202E4A19F388C968DD127BE2D7704ED5C3DC428FD7E\n\
         ?|   a link, as if it were the display             |7EA007032793DF557E\n\
         ?|   the rows, unsealed                            |7EA01903271334BCE6E600C001C100070000150006FF0200CE957E\n\
-        ?|   an association, sealed with keys of its own   |7EA0740327135FAEE6E6006066A109060760857405080103A60A040848414E00000000008A0207808B0760857405080205AC0A80084B35366956616759BE340432213030000000CD2E58DB0FAC073BABEBFED3FDE5DA69DB7881D7DB410C43B6406F18C484EEE5AFDDAEF97934DB171D64E49E18CC7E\n\
+        ?|   an association, sealed with keys of its own   |7EA0740327135FAEE6E6006066A109060760857405080103A60A040848414E00000000008A0207808B0760857405080205AC0A80084B35366956616759BE340432213030000000CE4C006B2EB5C43F8B1229F3052B3A838C368A9799AC1B5D64979F7886F6B23435FD80BF1BB42E112DED1D6E701E7E\n\
         ?|   an association, by the recorded frame         |7EA0740327135FAEE6E6006066A109060760857405080103A60A040848414E00000000008A0207808B0760857405080205AC0A80084B35366956616759BE340432213030000000C88C04859644927B02E23064814B8421ED8E2D9CE4B6A70D387519FC2B75A4DB2F8D092EF8D811B6523773E2CB1D7E\n\
         ?|   entry, by the recorded frame                  |7EA03F032713FD78E6E600CB3130000000CA4687EF5E347C0C0994D99913E4A68BB16D30887D76F3F00817D9C884EF9E831397E7FF16FD1F0273E2194C5929177E\n\
         :|       The recorded entry answers the challenge that the display was sent; this time the meter was given another.||0D\n\

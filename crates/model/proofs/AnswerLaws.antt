@@ -11,11 +11,14 @@ use Rattle.model.specs.declared.Name.{Name}
 use Rattle.model.specs.declared.Client.{Client}
 use Rattle.model.specs.declared.Client.the-variants.{Verification, Ciphering}
 use Rattle.model.specs.declared.CipherClient.the-variants.{Han}
+use Rattle.model.specs.declared.Clock.{Clock}
 use Rattle.model.specs.declared.Register.{Register}
 use Rattle.model.specs.Limits.{longestSent, dataRoom}
 use Rattle.model.specs.Names.{sameName, given, bearing}
+use Rattle.model.specs.Clocks.{inRange}
+use Rattle.model.specs.Selecting.{Selection, all, selected, Picking, whole, numbered, dated, Described, picking, faulty, described}
 use Rattle.model.specs.State.{Entry, Store, Body, withStore, withNumber, keeping, withRows}
-use Rattle.model.specs.Objects.{Simple, device, Content, simple, rows, recordNumber, register, Object, Own, clock, time, date, ownObjects, deviceObject, profileNamed, Meaning, known, unknown, amongOwn, amongRegisters, registerObject, meaning, serves, Selection, all, selected, Parameter, Service, get, action, Request, Result, granted, denied, unsigned32, nameData, simpleData, rowsData, valueData, scalerData, attributeData, Picked, these, wrong, entrySelector, isEntryDescriptor, fromEntry, toEntry, fromColumn, toColumn, entriesWrong, lastEntry, rowsBetween, entries, describedEntries, selectedRows, takesSelector, fitting, shown, attributeRead, methodInvoked, afterMethod, afterAction, Turn, turned, answered, refusalOf, getAnswer, actionAnswer}
+use Rattle.model.specs.Objects.{Simple, device, Content, simple, rows, recordNumber, register, Object, Own, clock, time, date, ownObjects, deviceObject, profileNamed, Meaning, known, unknown, amongOwn, amongRegisters, registerObject, meaning, serves, Parameter, Service, get, action, Request, Result, granted, denied, unsigned32, nameData, simpleData, rowsData, valueData, scalerData, attributeData, Picked, these, wrong, entriesWrong, lastEntry, rowsBetween, entries, rowsWithin, picked, pickedBy, selectedRows, takesSelector, fitting, shown, attributeRead, methodInvoked, afterMethod, afterAction, Turn, turned, answered, refusalOf, getAnswer, actionAnswer}
 use Rattle.model.specs.Demand3.{Chosen, hide, hideRegister, hideEntry, hideStore, hideBody, asksChosen}
 use Rattle.model.proofs.ListLaws.{map-take, map-drop}
 use Rattle.model.proofs.NameLaws.{given-bears}
@@ -111,18 +114,27 @@ module _ (ch : Chosen) where
       last : ℕ
       last = lastEntry to (length rs)
 
-  described-hidden : (cs : List Name) (v : List ℕ) (rs : List Entry) → describedEntries v (map (hideEntry ch cs) rs) ≡ hidePicked cs (describedEntries v rs)
-  unfolding describedEntries
-  described-hidden cs v rs =
-      picked-if cs (eqb (fromColumn v) 1 && eqb (toColumn v) 0) (entries (fromEntry v) (toEntry v) rs) (wrong 13)
-      (entries (fromEntry v) (toEntry v) (map (hideEntry ch cs) rs)) (wrong 13)
-      (entries-hidden cs (fromEntry v) (toEntry v) rs) refl
+  within-hidden : (cs : List Name) (from to : Clock) (rs : List Entry) → rowsWithin from to (map (hideEntry ch cs) rs) ≡ map (hideEntry ch cs) (rowsWithin from to rs)
+  within-hidden cs from to [] = refl
+  within-hidden cs from to (r ∷ rs) = go (inRange from to (r .clock)) (within-hidden cs from to rs)
+    where
+      go : (b : Bool) → rowsWithin from to (map (hideEntry ch cs) rs) ≡ map (hideEntry ch cs) (rowsWithin from to rs)
+          → cond b (hideEntry ch cs r ∷ rowsWithin from to (map (hideEntry ch cs) rs)) (rowsWithin from to (map (hideEntry ch cs) rs))
+          ≡ map (hideEntry ch cs) (cond b (r ∷ rowsWithin from to rs) (rowsWithin from to rs))
+      go true ih = ap (_∷_ (hideEntry ch cs r)) ih
+      go false ih = ih
+
+  picked-hidden : (cs : List Name) (p : Picking) (rs : List Entry) → picked p (map (hideEntry ch cs) rs) ≡ hidePicked cs (picked p rs)
+  picked-hidden cs whole rs = refl
+  picked-hidden cs (numbered from to) rs = entries-hidden cs from to rs
+  picked-hidden cs (dated from to) rs = ap these (within-hidden cs from to rs)
+
+  described-hidden : (cs : List Name) (d : Described) (rs : List Entry) → pickedBy d (map (hideEntry ch cs) rs) ≡ hidePicked cs (pickedBy d rs)
+  described-hidden cs (picking p) rs = picked-hidden cs p rs
+  described-hidden cs (faulty c) rs = refl
 
   selected-hidden : (cs : List Name) (b : Bool) (s : Selection) (rs : List Entry) → selectedRows b s (map (hideEntry ch cs) rs) ≡ hidePicked cs (selectedRows b s rs)
-  selected-hidden cs b all rs = refl
-  selected-hidden cs b (selected k v) rs =
-      picked-if cs (b && eqb k entrySelector && isEntryDescriptor v) (describedEntries v rs) (wrong 12)
-      (describedEntries v (map (hideEntry ch cs) rs)) (wrong 12) (described-hidden cs v rs) refl
+  selected-hidden cs b s rs = described-hidden cs (described b s) rs
 
   -- A read.
 
@@ -175,6 +187,7 @@ module _ (ch : Chosen) where
   content-near : (x : Content) (n : Name) (a : ℕ) (b : Body) (agreed : Bool) (s : Selection) → Tells x n (b .store .registers)
       → Near (asksChosen ch n (get a s) (b .store)) (shown x n a b (selectedRows (takesSelector x a && agreed) s (b .store .rows)))
       (shown (hideContent x) n a (hideBody ch b) (selectedRows (takesSelector (hideContent x) a && agreed) s (hideBody ch b .store .rows)))
+  unfolding described
   content-near (simple y) n a b agreed all t = near-simple _ (simple y) n a b _ _ (simple-hidden y b)
   content-near (simple y) n a b agreed (selected k v) t = near-equal refl
   content-near rows n a b agreed s t =

@@ -15,7 +15,8 @@ use Rattle.model.specs.Names.{seat, place, given, bearing, blankRegister
 use Rattle.model.specs.Clocks.{validClock}
 use Rattle.model.specs.State.{Entry, Store, Body, Model, withCells}
 use Rattle.model.specs.Soundness.{SoundnessTest, registerList, columnList, periodPermitted, clockValid, rowClocksValid, rowCount, rowCells, associationKind, associationOnLink, agreedServices, passes, acceptedRegisters, acceptedColumns, soundnessTests, sound}
-use Rattle.model.specs.Objects.{unsigned16, unsigned32, clockData, rowData, rowsData}
+use Rattle.model.specs.Clocks.{clockData}
+use Rattle.model.specs.Objects.{unsigned16, unsigned32, rowData, rowsData}
 use Rattle.model.specs.Calls.{cellsNow, rowNow}
 use Rattle.model.specs.Demand3.{Chosen, hide, hideRegister, hideCells, hideEntry, hideStore, hideBody, hidden, anyChosen}
 use Rattle.model.proofs.ListLaws.{neither, every-same, length-both, map-take, map-set, every-map, length-flat-map}

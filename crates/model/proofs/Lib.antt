@@ -1,4 +1,5 @@
 pub mod LimitFacts
+pub mod WorkedAnswers
 pub mod PeriodRule
 pub mod ListLaws
 pub mod NameLaws
@@ -6,11 +7,13 @@ pub mod ObjectLaws
 pub mod SoundnessLaws
 pub mod HidingLaws
 pub mod AnswerLaws
-pub mod WorkedAnswers
 pub mod Noninterference
 pub mod Honesty
 pub mod KeptRows
 pub mod RecordNumber
 pub mod StaySound
 pub mod AllowedNumbers
+pub mod ByDate
+pub mod MomentLaws
+pub mod ClockOrder
 pub mod ClientLaws

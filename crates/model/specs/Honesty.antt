@@ -10,7 +10,8 @@ use Rattle.model.specs.declared.Register.{Register}
 use lib.ListN.{getD}
 use Rattle.model.specs.Names.{sameName, given, withValue, blankRegister}
 use Rattle.model.specs.State.{Line, Entry, Store, Model, withBody, withStore, withCells}
-use Rattle.model.specs.Objects.{profileNamed, Selection, get, Request}
+use Rattle.model.specs.Selecting.{Selection}
+use Rattle.model.specs.Objects.{profileNamed, get, Request}
 use Rattle.model.specs.Calls.{Lent, Call, frame, owner, OwnerCall, giveRegisters, setValue, setColumns, setPeriod, tick, setP5, powerUp, Wrap, serve, Protocol, step, trace}
 use Rattle.model.specs.Demand3.{Chosen, hiddenCall, Alike, AlikeCalls, anyChosen, reads}
 

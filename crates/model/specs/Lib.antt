@@ -3,6 +3,7 @@ pub mod Names
 pub mod Clocks
 pub mod Periods
 pub mod Services
+pub mod Selecting
 pub mod State
 pub mod Clients
 pub mod Objects
@@ -13,3 +14,4 @@ pub mod Calls
 pub mod Demand3
 pub mod Honesty
 pub mod Archive
+pub mod ByDate

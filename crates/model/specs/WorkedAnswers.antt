@@ -1,10 +1,11 @@
 -- Worked answers of a body, byte by byte: each kind of data that a meter sends, and the answer to a method that V names, which
 -- no frame reaches, since V is never let ask for one. The definitions of specs/Objects give them all (`AnswersHold`), which is
 -- proved in proofs/WorkedAnswers, by computation. Kinds are those of document 01: 01 array, 02 structure, 06 and 12 numbers of 32
--- and 16 bits, 09 octet string, 0A visible string, 0F integer, 16 enumeration. No other definition cites this table.
+-- and 16 bits, 09 octet string, 0A visible string, 0F integer, 16 enumeration. Behind them worked ranges of rows (document 02, Q-1;
+-- `RangesHold`). No other definition cites these tables.
 use mathlib.Core.Path.{_≡_}
-use mathlib.Core.Bool.{Bool, true, _&&_}
-use mathlib.Core.List.{List, [], _∷_, _++_}
+use mathlib.Core.Bool.{Bool, true, false, _&&_}
+use mathlib.Core.List.{List, [], _∷_, _++_, map}
 use Prim.Native.Nat.{ℕ}
 use lib.Dec.{eqb}
 use Rattle.wire.specs.Reading.{sameBytes}
@@ -15,8 +16,9 @@ use Rattle.model.specs.declared.Client.the-variants.{Verification, Ciphe
 use Rattle.model.specs.declared.CipherClient.the-variants.{Han}
 use Rattle.model.specs.declared.Register.{Register}
 use Rattle.model.specs.Names.{every}
-use Rattle.model.specs.State.{Body}
-use Rattle.model.specs.Objects.{named, get, action, all, absent, Service, turned}
+use Rattle.model.specs.State.{Entry, Body}
+use Rattle.model.specs.Selecting.{all, selected, rangeDescriptor}
+use Rattle.model.specs.Objects.{named, get, action, absent, Service, turned, Picked, these, wrong, selectedRows}
 
 -- 18 minutes and 7 seconds past one, on the first day of 2017
 abbrev pub workedClock : Clock
@@ -77,3 +79,97 @@ workedAnswers =
 
 abbrev pub AnswersHold : Type 0
 AnswersHold = every (λ i holds. holds) 0 workedAnswers ≡ true
+
+-- Ranges.
+
+-- an hour and minute of a day of a month of 2016
+abbrev pub clockOn : (month day hour minute : ℕ) → Clock
+clockOn m d h n = record { bytes = 0x07 ∷ 0xE0 ∷ m ∷ d ∷ 0xFF ∷ h ∷ n ∷ 0x00 ∷ 0xFF ∷ 0x80 ∷ 0x00 ∷ 0x00 ∷ [] }
+
+abbrev pub rowAt : ℕ → Clock → Entry
+rowAt n t = record { number = n; clock = t; cells = [] }
+
+-- the rows picked are those of these record numbers, in this order; or none are, and this is the code
+abbrev pub picks : List ℕ → Picked → Bool
+picks ns (these rs) = sameBytes (map (λ r. r .number) rs) ns
+picks ns (wrong c) = false
+
+abbrev pub refuses : ℕ → Picked → Bool
+refuses c (these rs) = false
+refuses c (wrong d) = eqb c d
+
+-- rows of each quarter of an hour, newest first, as source document 000 has them in its example of a range
+abbrev pub quarters : List Entry
+quarters =
+    rowAt 7 (clockOn 1 1 11 15)
+    ∷ rowAt 6 (clockOn 1 1 11 0)
+    ∷ rowAt 5 (clockOn 1 1 10 45)
+    ∷ rowAt 4 (clockOn 1 1 10 30)
+    ∷ rowAt 3 (clockOn 1 1 10 15)
+    ∷ rowAt 2 (clockOn 1 1 10 0)
+    ∷ rowAt 1 (clockOn 1 1 9 45)
+    ∷ []
+
+-- rows of a night in which the clock was set back from three to two
+abbrev pub night : List Entry
+night =
+    rowAt 9 (clockOn 10 30 3 0)
+    ∷ rowAt 8 (clockOn 10 30 2 45)
+    ∷ rowAt 7 (clockOn 10 30 2 30)
+    ∷ rowAt 6 (clockOn 10 30 2 15)
+    ∷ rowAt 5 (clockOn 10 30 2 0)
+    ∷ rowAt 4 (clockOn 10 30 2 45)
+    ∷ rowAt 3 (clockOn 10 30 2 30)
+    ∷ rowAt 2 (clockOn 10 30 2 15)
+    ∷ rowAt 1 (clockOn 10 30 2 0)
+    ∷ []
+
+-- rows at midnight around the 29th of February, and at the end of the year
+abbrev pub days : List Entry
+days =
+    rowAt 5 (record { bytes = 0x07 ∷ 0xE1 ∷ 1 ∷ 1 ∷ 0xFF ∷ 0 ∷ 0 ∷ 0 ∷ 0xFF ∷ 0x80 ∷ 0x00 ∷ 0x00 ∷ [] })
+    ∷ rowAt 4 (clockOn 12 31 0 0)
+    ∷ rowAt 3 (clockOn 3 1 0 0)
+    ∷ rowAt 2 (clockOn 2 29 0 0)
+    ∷ rowAt 1 (clockOn 2 28 0 0)
+    ∷ []
+
+abbrev pub byRange : (from to : Clock) → List Entry → Picked
+byRange from to = selectedRows true (selected 1 (rangeDescriptor from to))
+
+-- a range descriptor, but for the attribute of its restricting object
+abbrev pub tenToEleven : (attribute : ℕ) → List ℕ
+tenToEleven a =
+    (0x02 ∷ 0x04 ∷ [])
+    ++ (0x02 ∷ 0x04 ∷ 0x12 ∷ 0x00 ∷ 0x08 ∷ 0x09 ∷ 0x06 ∷ 0x00 ∷ 0x00 ∷ 0x01 ∷ 0x00 ∷ 0x00 ∷ 0xFF ∷ 0x0F ∷ a ∷ 0x12 ∷ 0x00 ∷ 0x00 ∷ [])
+    ++ (0x09 ∷ 0x0C ∷ 0x07 ∷ 0xE0 ∷ 0x01 ∷ 0x01 ∷ 0xFF ∷ 0x0A ∷ 0x00 ∷ 0x00 ∷ 0xFF ∷ 0x80 ∷ 0x00 ∷ 0x00 ∷ [])
+    ++ (0x09 ∷ 0x0C ∷ 0x07 ∷ 0xE0 ∷ 0x01 ∷ 0x01 ∷ 0xFF ∷ 0x0B ∷ 0x00 ∷ 0x00 ∷ 0xFF ∷ 0x80 ∷ 0x00 ∷ 0x00 ∷ [])
+    ++ (0x01 ∷ 0x00 ∷ [])
+
+unfoldable pub workedRanges : List Bool
+workedRanges =
+    -- from is not in the range, and to is
+    picks (6 ∷ 5 ∷ 4 ∷ 3 ∷ []) (byRange (clockOn 1 1 10 0) (clockOn 1 1 11 0) quarters)
+    ∷ picks (5 ∷ []) (byRange (clockOn 1 1 10 30) (clockOn 1 1 10 45) quarters)
+    ∷ picks [] (byRange (clockOn 1 1 10 46) (clockOn 1 1 10 59) quarters)
+    -- no row is skipped where the clock went back
+    ∷ picks (9 ∷ 8 ∷ 7 ∷ 6 ∷ 4 ∷ 3 ∷ 2 ∷ []) (byRange (clockOn 10 30 2 0) (clockOn 10 30 3 0) night)
+    ∷ picks (7 ∷ 3 ∷ []) (byRange (clockOn 10 30 2 15) (clockOn 10 30 2 30) night)
+    -- days, months and years
+    ∷ picks (3 ∷ 2 ∷ []) (byRange (clockOn 2 28 0 0) (clockOn 3 1 0 0) days)
+    ∷ picks (5 ∷ 4 ∷ []) (byRange (clockOn 3 1 0 0) (record { bytes = 0x07 ∷ 0xE1 ∷ 1 ∷ 1 ∷ 0xFF ∷ 0 ∷ 0 ∷ 0 ∷ 0xFF ∷ 0x80 ∷ 0x00 ∷ 0x00 ∷ [] }) days)
+    -- from not before to; a clock not valid; another selector
+    ∷ refuses 13 (byRange (clockOn 1 1 10 0) (clockOn 1 1 10 0) quarters)
+    ∷ refuses 13 (byRange (clockOn 1 1 11 0) (clockOn 1 1 10 0) quarters)
+    ∷ refuses 13 (byRange (clockOn 2 30 0 0) (clockOn 3 1 0 0) days)
+    ∷ refuses 13 (byRange (clockOn 2 28 0 0) (clockOn 2 28 24 0) days)
+    ∷ refuses 12 (selectedRows true (selected 2 (rangeDescriptor (clockOn 1 1 10 0) (clockOn 1 1 11 0))) quarters)
+    ∷ refuses 12 (selectedRows true (selected 3 (rangeDescriptor (clockOn 1 1 10 0) (clockOn 1 1 11 0))) quarters)
+    ∷ refuses 12 (selectedRows false (selected 1 (rangeDescriptor (clockOn 1 1 10 0) (clockOn 1 1 11 0))) quarters)
+    -- the descriptor, byte by byte, from ten to eleven; and the same with attribute 3 of the clock
+    ∷ picks (6 ∷ 5 ∷ 4 ∷ 3 ∷ []) (selectedRows true (selected 1 (tenToEleven 0x02)) quarters)
+    ∷ refuses 12 (selectedRows true (selected 1 (tenToEleven 0x03)) quarters)
+    ∷ []
+
+abbrev pub RangesHold : Type 0
+RangesHold = every (λ i holds. holds) 0 workedRanges ≡ true

@@ -1,2 +1,4 @@
 pub mod TableLaws
+pub mod MarkLaws
 pub mod PickLaws
+pub mod RangeLaws

@@ -6,6 +6,7 @@ use model::Name;
 mod select;
 mod table;
 
+pub use select::count_marks;
 pub use select::pick_rows;
 pub use table::find;
 
@@ -65,8 +66,8 @@ pub enum Argument {
     Present(usize),
 }
 
-// The rows picked: the place of the first, and how many; or a result code.
+// The rows picked, a bit for each, the lowest for the newest row; or a result code.
 pub enum Pick {
-    These { first: usize, count: usize },
+    These { which: u16 },
     Wrong(u8),
 }

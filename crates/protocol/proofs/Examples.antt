@@ -8,6 +8,7 @@ use Rattle.model.specs.Clocks.{februaryDays, daysIn, realDate, realTime, fixedB
 use Rattle.model.specs.Periods.{periods}
 use Rattle.model.specs.State.{newMeter}
 use Rattle.model.specs.Soundness.{acceptedRegisters, acceptedColumns, sound}
+use Rattle.model.specs.Selecting.{isEntryDescriptor, describedEntries, described}
 use Rattle.model.specs.Objects.{entriesWrong, entries}
 use Rattle.model.specs.Calls.{lentRefusal, act, step}
 use Rattle.hdlc.specs.Layout.{formatOf, hcsOf, informationOf, fcsOf, headBytes, checked, flagged, frameOf}
@@ -23,5 +24,5 @@ unfolding examples
 examples-numbered = refl
 
 pub examples-hold : ExamplesHold
-unfolding examples shift steps sameBytes checkOf checkFrom checkByte polynomial longestSent longestReceived replyRoom greatestLength maxRows maxRegisters maxColumns februaryDays daysIn realDate realTime fixedBytes validClock periods newMeter acceptedRegisters acceptedColumns sound entriesWrong entries lentRefusal act step formatOf hcsOf informationOf fcsOf headBytes checked flagged frameOf senderOf firstFailing refusedFrame acceptedFrame readFrame inWindow linkUp linkDown ruled decide
+unfolding examples shift steps sameBytes checkOf checkFrom checkByte polynomial longestSent longestReceived replyRoom greatestLength maxRows maxRegisters maxColumns februaryDays daysIn realDate realTime fixedBytes validClock periods newMeter acceptedRegisters acceptedColumns sound isEntryDescriptor describedEntries described entriesWrong entries lentRefusal act step formatOf hcsOf informationOf fcsOf headBytes checked flagged frameOf senderOf firstFailing refusedFrame acceptedFrame readFrame inWindow linkUp linkDown ruled decide
 examples-hold = refl

@@ -11,4 +11,5 @@ pub mod Outcomes
 pub mod Framed
 pub mod LinkUp
 pub mod SecondRow
+pub mod ByDate
 pub mod Entrance

@@ -21,6 +21,7 @@ use Rattle.model.specs.Periods.{periods, captureDue}
 use Rattle.model.specs.Services.{within}
 use Rattle.model.specs.State.{Association, none, pending, associated, Peer, Line, Entry, Body, Model, withLine, newPeer, noCounters, newClock, newMeter}
 use Rattle.model.specs.Soundness.{acceptedRegisters, acceptedColumns, isNone, associationOnLink, linksStand, onLink, sound}
+use Rattle.model.specs.Selecting.{described}
 use Rattle.model.specs.Objects.{Request, Turn, granted, rowData, rowsData, attributeData, fitting, attributeRead, getAnswer, turned}
 use Rattle.model.specs.Calls.{Lent, owner, tick, Outcome, captured, serve, decided, step}
 use Rattle.model.specs.Archive.{rowsOf}
@@ -142,7 +143,7 @@ profile-asked invoke = refl
 -- the rows, where they fit
 profile-read : (selective : Bool) (invoke : ℕ) (b : Body) (rs : List Entry) → b .store .rows ≡ rs → length (rowsData rs) ≤ dataRoom longestSent
     → turned (requested (Ciphering Han) selective (getProfile invoke) (profileAsked invoke)) b ≡ record { refusal = 0; bytes = getAnswer invoke (granted (rowsData rs)); body = b }
-unfolding turned requested nameIn filled attributeRead attributeData fitting sameBytes
+unfolding turned requested nameIn filled attributeRead attributeData described fitting sameBytes
 profile-read selective invoke b rs e h = rw (e, le-leb (length (rowsData rs)) (dataRoom longestSent) h)
 
 module _ (t : Clock) (m : Model) (s : sound m ≡ true) (v : validClock t ≡ true) (d : captureDue (m .body .period) t ≡ true) where
@@ -187,7 +188,7 @@ unfolding nextCounter
 next-small n = omega arith
 
 -- an answer that fits opens
-answer-opens : (c : CipherClient) (a : Lent) (l : Line) (kind : ServiceKind) (counter : ℕ) (wanted : List ℕ) → Asking c a l kind counter wanted → (text : List ℕ) → length text ≤ textRoom longestSent
+pub answer-opens : (c : CipherClient) (a : Lent) (l : Line) (kind : ServiceKind) (counter : ℕ) (wanted : List ℕ) → Asking c a l kind counter wanted → (text : List ℕ) → length text ≤ textRoom longestSent
     → opened (dedicatedKeys (a .ak) c l) (l .title) (answerTag (dedicatedTag kind)) (apduOf (toH a l c (dedicatedTag kind) text)) ≡ opens (nextCounter (counters c l .sent)) text
 unfolding greatestApdu longestReceived
 answer-opens c a l kind counter wanted k text fits =
@@ -230,7 +231,7 @@ second-row-read a m t counter invoke s v d k fits =
 
 -- A new meter with an associated H, at its first clock.
 
-abbrev someLine : Line
+abbrev pub someLine : Line
 someLine =
     record {
       title = replicate 8 0;
@@ -239,7 +240,7 @@ someLine =
       p5 = false;
     }
 
-abbrev someMeter : Model
+abbrev pub someMeter : Model
 someMeter = withLine someLine (newMeter (replicate 16 0) (replicate 8 0) (replicate 8 0) (replicate 8 0))
 
 abbrev someLent : Lent
@@ -252,7 +253,7 @@ someLent =
       received = requestFrame (Ciphering Han) (sealedEnvelope (dedicatedKeys (replicate 16 0) Han someLine) (replicate 8 0) 0xD0 1 (getProfile 0));
     }
 
-some-sound : sound someMeter ≡ true
+pub some-sound : sound someMeter ≡ true
 unfolding sound newMeter acceptedRegisters acceptedColumns validClock realDate realTime fixedBytes daysIn februaryDays periods maxRows maxRegisters maxColumns within
 some-sound = refl
 

@@ -10,7 +10,8 @@ use borrow.Author.Tests.{leb-true}
 use Rattle.model.specs.declared.Name.{Name}
 use Rattle.model.specs.Limits.{longestSent, textRoom, dataRoom}
 use Rattle.model.specs.State.{Body}
-use Rattle.model.specs.Objects.{Content, Meaning, known, unknown, meaning, serves, Selection, Service, get, action, Request, Result, granted, denied, Picked, these, wrong, attributeData, takesSelector, selectedRows, fitting, shown, attributeRead, methodInvoked, Turn, refusalOf, getAnswer, actionAnswer, afterAction, answered, turned}
+use Rattle.model.specs.Selecting.{Selection}
+use Rattle.model.specs.Objects.{Content, Meaning, known, unknown, meaning, serves, Service, get, action, Request, Result, granted, denied, Picked, these, wrong, attributeData, takesSelector, selectedRows, fitting, shown, attributeRead, methodInvoked, Turn, refusalOf, getAnswer, actionAnswer, afterAction, answered, turned}
 use Rattle.model.proofs.LimitFacts.{text-room, data-room}
 use Rattle.model.proofs.ListLaws.{by-test}
 use Rattle.protocol.specs.Outcomes.{Denial, read, action as acted}

@@ -1,17 +1,20 @@
 -- The fourteen marked examples of document 01, as one table: its numbers are 1 to 14, in order (`ExamplesNumbered`), and all of
 -- them hold (`ExamplesHold`). Both are proved in proofs/Examples, by computation.
 use mathlib.Core.Path.{_≡_}
-use mathlib.Core.Bool.{Bool, true, false, not}
-use mathlib.Core.List.{List, [], _∷_, map}
+use mathlib.Core.Bool.{Bool, true, not}
+use mathlib.Core.List.{List, [], _∷_, _++_, map}
 use Prim.Native.Nat.{ℕ, zero, suc}
 use lib.Dec.{eqb}
 use lib.ListN.{replicate}
+use Rattle.wire.specs.Numbers.{highFirst}
 use Rattle.wire.specs.Reading.{sameBytes}
 use Rattle.fcs.specs.Check.{checkOf}
 use Rattle.model.specs.Names.{every}
 use Rattle.model.specs.Limits.{longestSent, replyRoom, maxRows}
 use Rattle.model.specs.State.{Entry, newClock, newMeter}
-use Rattle.model.specs.Objects.{Picked, these, wrong, entries}
+use Rattle.model.specs.Selecting.{selected}
+use Rattle.model.specs.Objects.{Picked, selectedRows}
+use Rattle.model.specs.WorkedAnswers.{picks, refuses}
 use Rattle.model.specs.Calls.{frame, Outcome, nextNumber, step}
 use Rattle.counters.specs.Window.{inWindow}
 use Rattle.protocol.specs.Decide.{p2}
@@ -31,14 +34,12 @@ numberedFrom (suc n) i = i ∷ numberedFrom n (suc i)
 abbrev pub fifteenRows : List Entry
 fifteenRows = map (λ n. record { number = n; clock = newClock; cells = [] }) (numberedFrom maxRows 1)
 
--- the rows picked are those of these places
-abbrev pub picks : List ℕ → Picked → Bool
-picks ns (these rs) = sameBytes (map (λ r. r .number) rs) ns
-picks ns (wrong c) = false
-
-abbrev pub refusedBy : ℕ → Picked → Bool
-refusedBy c (these rs) = false
-refusedBy c (wrong d) = eqb c d
+-- what an entry descriptor of these numbers, all columns meant, comes to: by selector 2 since document 02, Q-1
+abbrev pub selectedEntries : (from to : ℕ) → Picked
+selectedEntries from to =
+    selectedRows true
+    (selected 2 (0x02 ∷ 0x04 ∷ 0x06 ∷ highFirst 4 from ++ (0x06 ∷ highFirst 4 to ++ (0x12 ∷ 0x00 ∷ 0x01 ∷ 0x12 ∷ 0x00 ∷ 0x00 ∷ []))))
+    fifteenRows
 
 abbrev pub linkUpFrame : List ℕ
 linkUpFrame = 0x7E ∷ 0xA0 ∷ 0x07 ∷ 0x03 ∷ 0x21 ∷ 0x93 ∷ 0x0F ∷ 0x01 ∷ 0x7E ∷ []
@@ -64,10 +65,10 @@ examples =
     ∷ example 7 (inWindow 200 380)
     ∷ example 8 (not (inWindow 200 200))
     ∷ example 9 (not (inWindow 200 381))
-    ∷ example 10 (picks (numberedFrom 15 1) (entries 1 0 fifteenRows))
-    ∷ example 11 (picks (numberedFrom 14 2) (entries 2 16 fifteenRows))
-    ∷ example 12 (refusedBy 13 (entries 0 10 fifteenRows))
-    ∷ example 13 (refusedBy 13 (entries 16 0 fifteenRows))
+    ∷ example 10 (picks (numberedFrom 15 1) (selectedEntries 1 0))
+    ∷ example 11 (picks (numberedFrom 14 2) (selectedEntries 2 16))
+    ∷ example 12 (refuses 13 (selectedEntries 0 10))
+    ∷ example 13 (refuses 13 (selectedEntries 16 0))
     ∷ example 14 (eqb (nextNumber 65535) 0)
     ∷ []
 

@@ -5,3 +5,4 @@ pub mod Examples
 pub mod Claim
 pub mod Outcomes
 pub mod Lazy
+pub mod ByDate

@@ -31,7 +31,7 @@ device-long b vs g = simp length-map at (g .1 .1 .0 .1 .0 .1)
 pub clock-long : (b : BodyState) (vs : List Val) → Is (row body-type) b vs → length (b .clock .bytes) ≡ 12
 clock-long b vs g = simp length-map at (g .1 .1 .1 .0 .1 .1 .0 .1 .0 .1)
 
-row-long : (r : Row) (vs : List Val) → Is (row row-type) r vs → length (r .clock .bytes) ≡ 12
+pub row-long : (r : Row) (vs : List Val) → Is (row row-type) r vs → length (r .clock .bytes) ≡ 12
 row-long r vs g = simp length-map at (g .1 .1 .1 .0 .1 .1 .0 .1 .0 .1)
 
 -- what holds of each element of an array

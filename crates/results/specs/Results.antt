@@ -1,9 +1,9 @@
 -- What a request comes to, as the code answers it: the data of each case, and the model's Result.
 use mathlib.Core.Path.{_≡_}
 use mathlib.Core.List.{List, []}
-use Prim.Native.Nat.{ℕ, _+_, _≤_}
+use Prim.Native.Nat.{ℕ, _≤_}
 use mathlib.Core.Bool.{true}
-use lib.ListN.{length, take, drop}
+use lib.ListN.{length}
 use lib.Dec.{eqb}
 use Rattle.model.specs.declared.Name.{Name}
 use Rattle.model.specs.Limits.{longestSent, dataRoom}
@@ -18,39 +18,29 @@ use Rattle.results.specs.declared.Data.the-variants.{Name as Named, Plai
 use Rattle.results.specs.declared.Outcome.{Outcome}
 use Rattle.results.specs.declared.Outcome.the-variants.{Granted, Denied}
 use Rattle.objects.specs.Meanings.{plainAs, shownAs}
+use Rattle.objects.specs.Picks.{marked}
 
 -- the bytes of each case, from the name asked for and the body
 abbrev pub dataAs : Name → Body → Data → List ℕ
 dataAs n b Named = nameData n
 dataAs n b (Plain x) = simpleData (plainAs x) b
-dataAs n b (Rows first count) = rowsData (take count (drop first (b .store .rows)))
+dataAs n b (Rows which) = rowsData (marked which (b .store .rows))
 dataAs n b RecordNumber = unsigned16 (b .number)
 dataAs n b (Value value) = unsigned32 value
 dataAs n b (ScalerUnit scaler unit) = scalerUnit scaler unit
 dataAs n b Nothing = []
 
--- the rows that the data have lie within n
-abbrev pub dataWithin : ℕ → Data → Type 0
-dataWithin n Named = Unit {0}
-dataWithin n (Plain x) = Unit {0}
-dataWithin n (Rows first count) = first + count ≤ n
-dataWithin n RecordNumber = Unit {0}
-dataWithin n (Value value) = Unit {0}
-dataWithin n (ScalerUnit scaler unit) = Unit {0}
-dataWithin n Nothing = Unit {0}
-
 -- the data of an attribute of an object of any name, in any body, where these rows were picked
-pub record Shows (x : Shown) (a first count : ℕ) (d : Data) : Type 0 where
-  pub is : (n : Name) (b : Body) → dataAs n b d ≡ attributeData (shownAs n x) n a (take count (drop first (b .store .rows))) b
-  pub within : (n : ℕ) → first + count ≤ n → dataWithin n d
+abbrev pub Shows : Shown → (a which : ℕ) → Data → Type 0
+Shows x a which d = (n : Name) (b : Body) → dataAs n b d ≡ attributeData (shownAs n x) n a (marked which (b .store .rows)) b
 
 abbrev pub outcomeAs : Name → Body → Outcome → Result
 outcomeAs n b (Granted d) = granted (dataAs n b d)
 outcomeAs n b (Denied code) = denied code
 
--- what is granted can be written: its rows are there, and it takes no more than its room
+-- what is granted can be written: it takes no more than its room
 abbrev pub Writable : Name → Body → Outcome → Type 0
-Writable n b (Granted d) = dataWithin (length (b .store .rows)) d × (length (dataAs n b d) ≤ dataRoom longestSent)
+Writable n b (Granted d) = length (dataAs n b d) ≤ dataRoom longestSent
 Writable n b (Denied code) = Unit {0}
 
 -- what a request comes to

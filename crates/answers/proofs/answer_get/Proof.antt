@@ -4,7 +4,6 @@ use native.Mathlib.Omega.{arith}
 use Rattle.wire_write.proofs.WroteLaws.{then}
 use Rattle.model.specs.Objects.{get}
 use Rattle.model.proofs.LimitFacts.{data-room, text-room}
-use Rattle.store.proofs.StoreLaws.{rows-counted}
 use Rattle.body.specs.View.{bodyOf}
 use Rattle.objects.specs.Meanings.{foundAs, requestAs}
 use Rattle.objects.specs.Picks.{selectionIn}
@@ -20,9 +19,8 @@ put-data-requires c κs =
     let at-granted = at-head .before .before .before in
     let at-read-attribute = at-granted .before .before in
     let start = at-read-attribute .before .before .before in
-    let a = start .args in
     let w = rw (at-granted .o .given .1) at (at-read-attribute .read-attribute .ensures .writable) in
-    (start .pre .0, rw (rows-counted (a .body .rows)) at (w .0), omega (arith, w .1, data-room, text-room))
+    (start .pre .0, omega (arith, w, data-room, text-room))
 
 returns : tie.Need-returns
 returns c =
@@ -34,7 +32,7 @@ returns c =
     let a = start .args in
     let v = selectionIn (a .apdu .now) (a .selector) in
     let w = rw (at-granted .o .given .1) at (at-read-attribute .read-attribute .ensures .writable) in
-    read-granted (requestAs (a .query) (get (a .attribute) v)) (bodyOf (a .body)) (foundAs (a .query .name) (a .found)) _ (a .attribute) v refl _ (rw (at-granted .o .given .1) at (at-read-attribute .read-attribute .ensures .means)) (w .1) refl (then (at-head .put-head .ensures) (at-data .put-data .ensures))
+    read-granted (requestAs (a .query) (get (a .attribute) v)) (bodyOf (a .body)) (foundAs (a .query .name) (a .found)) _ (a .attribute) v refl _ (rw (at-granted .o .given .1) at (at-read-attribute .read-attribute .ensures .means)) w refl (then (at-head .put-head .ensures) (at-data .put-data .ensures))
 
 returns-2 : tie.Need-returns-2
 returns-2 c =

@@ -8,10 +8,7 @@ use Rattle.results.proofs.data_size.Statement.{statement}
 use Rattle.results.proofs.data_size.Tie as tie
 
 rows-size-requires : tie.Need-rows-size-requires
-rows-size-requires c κs =
-    let k = c .before .before .before in
-    let s = k .before .before in
-    (sound-even (s .args .body) (s .pre .0), rw (k .d2 .given .1) at (s .pre .1))
+rows-size-requires c κs = let s = c .before .before .before .before .before in sound-even (s .args .body) (s .pre)
 
 returns : tie.Need-returns
 returns c = let s = c .before .before in rw (c .enum-told .given .1) (omega (arith, name-long (s .args .name) _ (s .good .1 .0)))

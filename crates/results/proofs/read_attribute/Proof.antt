@@ -2,8 +2,8 @@
 use mathlib.Core.Path.{refl, sym, _∙_}
 use borrow.Author.Tests.{eq-eqb, ne-eqb, not-true, not-false}
 use Rattle.model.specs.Objects.{attributeRead}
-use Rattle.store.proofs.StoreLaws.{rows-counted}
 use Rattle.body.specs.View.{bodyOf}
+use Rattle.body.proofs.BodyLaws.{sound-fits}
 use borrow.Author.Needs.{needs}
 use Rattle.results.proofs.read_attribute.Statement.{statement}
 use Rattle.results.proofs.read_attribute.Tie as tie
@@ -22,11 +22,10 @@ returns-3 c =
     let k = c .before .before in
     rw (k .before .before .found .given .1, eq-eqb _ _ (k .if1 .left), sym (c .before .serves .ensures) ∙ not-true _ (c .if2 .taken)) (record { means = refl; writable = tt })
 
-show-requires : tie.Need-show-requires
-show-requires c κs =
-    let k = c .before in
-    let s = k .before .before .before .before .before .before .before .before .before .before in
-    (s .pre, rw (rows-counted (s .args .body .rows)) at (k .pick-rows .ensures .within))
+pick-rows-requires : tie.Need-pick-rows-requires
+pick-rows-requires c κs =
+    let s = c .before .before .before .before .before .before .before .before .before in
+    sound-fits (s .args .body) (s .pre) .rows
 
 returns-4 : tie.Need-returns-4
 unfolding attributeRead bodyOf
@@ -35,8 +34,8 @@ returns-4 c =
     let t = p .before .before in
     let k = t .before .before .before in
     let a = k .before .before .before .before .before .args in
-    rw (k .before .before .found .given .1, eq-eqb _ _ (k .if1 .left), sym (t .before .before .serves .ensures) ∙ not-false _ (t .before .if2 .left), sym (t .takes-selector .ensures (a .query .name)), sym (p .pick-rows .ensures .means))
+    rw (k .before .before .found .given .1, eq-eqb _ _ (k .if1 .left), sym (t .before .before .serves .ensures) ∙ not-false _ (t .before .if2 .left), sym (t .takes-selector .ensures (a .query .name)), sym (p .pick-rows .ensures))
     (c .show .ensures)
 
 pub read-attribute-spec : {M : Type 1} → statement M
-read-attribute-spec = tie.close (tie.spec (λ c. search needs) (λ c. search needs) returns returns-2 (λ c κs. search needs) returns-3 (λ c κs. search needs) (λ c κs. search needs) show-requires returns-4)
+read-attribute-spec = tie.close (tie.spec (λ c. search needs) (λ c. search needs) returns returns-2 (λ c κs. search needs) returns-3 (λ c κs. search needs) pick-rows-requires (λ c κs. search needs) returns-4)

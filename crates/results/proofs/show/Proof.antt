@@ -1,17 +1,10 @@
 -- `results::show` meets its contract: data that fit are granted, and others denied.
 use mathlib.Core.Path.{refl}
-use Rattle.store.proofs.StoreLaws.{rows-counted}
 use Rattle.body.specs.View.{bodyOf}
 use Rattle.results.proofs.ResultLaws.{shown-long, shown-fits}
 use borrow.Author.Needs.{needs}
 use Rattle.results.proofs.show.Statement.{statement}
 use Rattle.results.proofs.show.Tie as tie
-
-data-size-requires : tie.Need-data-size-requires
-data-size-requires c κs =
-    let k = c .before .before in
-    let s = k .before .before in
-    (s .pre .0, c .attribute-data .ensures .within _ (rw (k .p .given .1) at (s .pre .1)))
 
 returns : tie.Need-returns
 unfolding bodyOf
@@ -19,20 +12,19 @@ returns c =
     let t = c .before .before in
     let k = t .before .before in
     let a = k .before .before .args in
-    rw (k .p .given .1) (shown-long (a .shown) (a .name) (a .attribute) (bodyOf (a .body)) _ _ _ (t .attribute-data .ensures) _ (c .before .data-size .ensures) (c .if1 .taken))
+    rw (k .p .given .1) (shown-long (a .shown) (a .name) (a .attribute) (bodyOf (a .body)) _ (t .attribute-data .result) (t .attribute-data .ensures) _ (c .before .data-size .ensures) (c .if1 .taken))
 
 returns-2 : tie.Need-returns-2
 unfolding bodyOf
 returns-2 c =
     let t = c .before .before in
     let k = t .before .before in
-    let s = k .before .before in
-    let a = s .args in
+    let a = k .before .before .args in
     rw (k .p .given .1)
-    (shown-fits (a .shown) (a .name) (a .attribute) (bodyOf (a .body)) _ _ _ (t .attribute-data .ensures) _ (c .before .data-size .ensures) (c .if1 .left) (rw (rows-counted (a .body .rows)) (rw (k .p .given .1) at (s .pre .1))))
+    (shown-fits (a .shown) (a .name) (a .attribute) (bodyOf (a .body)) _ (t .attribute-data .result) (t .attribute-data .ensures) _ (c .before .data-size .ensures) (c .if1 .left))
 
 returns-3 : tie.Need-returns-3
 returns-3 c = rw (c .before .p2 .given .1) (record { means = refl; writable = tt })
 
 pub show-spec : {M : Type 1} → statement M
-show-spec = tie.close (tie.spec (λ c. search needs) (λ c κs. search needs) data-size-requires returns (λ c. search needs) returns-2 returns-3)
+show-spec = tie.close (tie.spec (λ c. search needs) (λ c κs. search needs) (λ c κs. search needs) returns (λ c. search needs) returns-2 returns-3)

@@ -1,7 +1,7 @@
 -- `cosem::shapes::is_entry_descriptor` meets its contract.
 use borrow.Author.Needs.{needs}
 use borrow.Author.Tests.{eq-eqb, ne-eqb}
-use Rattle.model.specs.Objects.{isEntryDescriptor}
+use Rattle.model.specs.Selecting.{isEntryDescriptor}
 use Rattle.cosem.proofs.shapes.is_entry_descriptor.Statement.{statement}
 use Rattle.cosem.proofs.shapes.is_entry_descriptor.Tie as tie
 

@@ -1,0 +1,180 @@
+-- Rows by date at the plug: the statements of specs/ByDate, proved. The request is read, the body picks its rows, and the
+-- answer goes out as that to any request in an envelope.
+use mathlib.Core.Path.{_≡_, refl, sym, ap, _∙_}
+use mathlib.Core.Bool.{true}
+use mathlib.Core.List.{List, [], _∷_, flatMap}
+use Prim.Native.Nat.{ℕ, zero, suc, _≤_}
+use native.Mathlib.Omega.{arith}
+use lib.Dec.{lit<, lit≤}
+use lib.ListN.{length, replicate}
+use borrow.Author.Tests.{le-leb}
+use Rattle.wire.specs.Numbers.{lengthField}
+use Rattle.wire.specs.Reading.{sameBytes, skipped, expected, filled, numberAt, lengthAt}
+use Rattle.axdr.specs.Values.{greatestDepth, layoutOf, elementsEnd, valueWithin, valueEnd}
+use Rattle.model.specs.declared.Client.the-variants.{Ciphering}
+use Rattle.model.specs.declared.CipherClient.the-variants.{Han}
+use Rattle.model.specs.declared.Clock.{Clock}
+use Rattle.model.specs.Limits.{longestSent, longestReceived, replyRoom, greatestApdu, envelopeLength, dataRoom, maxRows, maxRegisters, maxColumns}
+use Rattle.model.specs.Clocks.{februaryDays, daysIn, realDate, realTime, fixedBytes, validClock, daysOfMonths, daysOfYears, dayNumber, moment, later, inRange}
+use Rattle.model.specs.Periods.{periods}
+use Rattle.model.specs.Services.{within}
+use Rattle.model.specs.Selecting.{selected, rangeSelector, rangeDescriptor, goodRange}
+use Rattle.model.specs.State.{Entry, Body, Model, withBody, withStore, withRows, newClock, newMeter}
+use Rattle.model.specs.Soundness.{acceptedRegisters, acceptedColumns, sound}
+use Rattle.model.specs.Objects.{Turn, granted, rowData, rowsData, rowsWithin, fitting, getAnswer}
+use Rattle.model.specs.Calls.{Lent}
+use Rattle.model.specs.Archive.{rowsOf}
+use Rattle.model.specs.ByDate.{done, taken, profileRequest, readTurn}
+use Rattle.model.proofs.LimitFacts.{data-room}
+use Rattle.model.proofs.ByDate.{rows-kept, kept-only, range-turned, both-kept}
+use Rattle.cosem.specs.declared.Wanted.the-variants.{ReadSelected}
+use Rattle.cosem.specs.declared.Asked.{Asked}
+use Rattle.cosem.specs.declared.Reading.the-variants.{Asks}
+use Rattle.cosem.specs.declared.ServiceKind.the-variants.{Get}
+use Rattle.cosem.specs.Tags.{tagOf}
+use Rattle.cosem.specs.Requests.{optionalPart, lastValue, readGet, readService, nameIn, requested}
+use Rattle.counters.specs.Window.{inWindow}
+use Rattle.envelope.specs.Layout.{sealedEnvelope}
+use Rattle.protocol.specs.Clients.{selectiveIn, dedicatedKeys}
+use Rattle.protocol.specs.Decide.{accepted, advanced}
+use Rattle.protocol.specs.Outcomes.{toH, enclosedGet}
+use Rattle.protocol.specs.Lazy.{requestFrame, Asking}
+use Rattle.protocol.specs.ByDate.{getRange, RowsReadByDate, BothReadByDate, ByDateHappens}
+use Rattle.protocol.proofs.Turns.{read-fits}
+use Rattle.protocol.proofs.SecondRow.{next-counter, answer-opens, someLine, someMeter}
+
+-- The request.
+
+-- what holds of every list of n numbers, number by number
+abbrev EachOf : ℕ → (List ℕ → Type 0) → Type 0
+EachOf zero P = P []
+EachOf (suc n) P = (x : ℕ) → EachOf n (λ xs. P (x ∷ xs))
+
+of-long : (n : ℕ) (P : List ℕ → Type 0) → EachOf n P → (xs : List ℕ) → length xs ≡ n → P xs
+of-long zero P h [] e = h
+of-long zero P h (x ∷ xs) e = absurd (omega arith)
+of-long (suc n) P h [] e = absurd (omega arith)
+of-long (suc n) P h (x ∷ xs) e = of-long n (λ ys. P (x ∷ ys)) (h x) xs (omega arith)
+
+-- what holds of every two clocks of twelve bytes, byte by byte
+of-clocks : (P : Clock → Clock → Type 0) → EachOf 12 (λ fs. EachOf 12 (λ ts. P (record { bytes = fs }) (record { bytes = ts })))
+    → (from to : Clock) → length (from .bytes) ≡ 12 → length (to .bytes) ≡ 12 → P from to
+of-clocks P h from to f t =
+    of-long 12 (λ ts. P from (record { bytes = ts })) (of-long 12 (λ fs. EachOf 12 (λ ts. P (record { bytes = fs }) (record { bytes = ts }))) h (from .bytes) f) (to .bytes) t
+
+abbrev rangeAsked : ℕ → Asked
+rangeAsked invoke = record { invoke = invoke; class = 7; wanted = ReadSelected 2 1 14 }
+
+range-asked : (invoke : ℕ) (from to : Clock) → length (from .bytes) ≡ 12 → length (to .bytes) ≡ 12 → readService Get (getRange invoke from to) ≡ Asks (rangeAsked invoke)
+unfolding getRange rangeDescriptor readGet optionalPart lastValue expected skipped numberAt lengthAt sameBytes greatestDepth layoutOf elementsEnd valueWithin valueEnd
+range-asked invoke = of-clocks (λ from to. readService Get (getRange invoke from to) ≡ Asks (rangeAsked invoke)) (λ a b c d e f g h i j k l m n o p q r s t u v w x. refl)
+
+range-requested : (invoke : ℕ) (from to : Clock) → length (from .bytes) ≡ 12 → length (to .bytes) ≡ 12
+    → requested (Ciphering Han) true (getRange invoke from to) (rangeAsked invoke) ≡ profileRequest invoke (selected rangeSelector (rangeDescriptor from to))
+unfolding getRange rangeDescriptor requested nameIn filled
+range-requested invoke =
+    of-clocks (λ from to. requested (Ciphering Han) true (getRange invoke from to) (rangeAsked invoke) ≡ profileRequest invoke (selected rangeSelector (rangeDescriptor from to)))
+    (λ a b c d e f g h i j k l m n o p q r s t u v w x. refl)
+
+-- The answer.
+
+rows-fit : (invoke : ℕ) (rs : List Entry) (b : Body) → length (rowsData rs) ≤ dataRoom longestSent → readTurn invoke rs b ≡ record { refusal = 0; bytes = getAnswer invoke (granted (rowsData rs)); body = b }
+unfolding fitting
+rows-fit invoke rs b h = rw (le-leb (length (rowsData rs)) (dataRoom longestSent) h)
+
+pub rows-read-by-date : RowsReadByDate
+rows-read-by-date a m from to counter invoke rs k kept fits =
+    let text = getRange invoke from to in
+    let line = advanced Han (accepted Han counter (m .line)) in
+    let same = kept-only _ (rowsOf m) rs (rowsWithin from to (rowsOf m)) kept (rows-kept from to (rowsOf m)) in
+    let asked = range-asked invoke from to (k .first) (k .last) in
+    let request = range-requested invoke from to (k .first) (k .last) in
+    let read = range-turned invoke from to (m .body) (k .first) (k .last) (k .good) ∙ ap (λ (l : List Entry). readTurn invoke l (m .body)) (sym same) ∙ rows-fit invoke rs (m .body) fits in
+    let answer =
+    rw (k .agreed, request) at (next-counter Han a m Get counter text (rangeAsked invoke) (k .isSound) (k .asks) asked)
+    ∙ ap (λ (x : Turn). record { refusal = x .refusal; sent = toH a (m .line) Han 0xD0 (x .bytes); next = record { line = line; body = x .body } }) read in
+    record {
+      answer = answer;
+      found = rw answer (answer-opens Han a (m .line) Get counter text (k .asks) (getAnswer invoke (granted (rowsData rs))) (read-fits invoke (granted (rowsData rs)) fits));
+    }
+
+pub both-read-by-date : BothReadByDate
+both-read-by-date a m from to counter invoke r s rs k kept fits t e inside =
+    record { both = both-kept from to r s (rowsOf m) rs kept t inside (rw e at inside); read = rows-read-by-date a m from to counter invoke rs k kept fits }
+
+-- A new meter with an associated H, which keeps two rows of its first clock.
+
+abbrev datedRow : ℕ → Entry
+datedRow n = record { number = n; clock = newClock; cells = [] }
+
+abbrev datedMeter : Model
+datedMeter = withBody (withStore (withRows (datedRow 2 ∷ datedRow 1 ∷ []) (someMeter .body .store)) (someMeter .body)) someMeter
+
+-- an hour before it, and an hour after it
+abbrev hourBefore : Clock
+hourBefore = record { bytes = 0x07 ∷ 0xE0 ∷ 12 ∷ 31 ∷ 0xFF ∷ 23 ∷ 0 ∷ 0 ∷ 0xFF ∷ 0x80 ∷ 0x00 ∷ 0x00 ∷ [] }
+
+abbrev hourAfter : Clock
+hourAfter = record { bytes = 0x07 ∷ 0xE1 ∷ 1 ∷ 1 ∷ 0xFF ∷ 1 ∷ 0 ∷ 0 ∷ 0xFF ∷ 0x80 ∷ 0x00 ∷ 0x00 ∷ [] }
+
+abbrev datedLent : Lent
+datedLent =
+    record {
+      room = replyRoom longestSent;
+      guk = replicate 16 0;
+      ak = replicate 16 0;
+      challenge = replicate 8 0;
+      received = requestFrame (Ciphering Han) (sealedEnvelope (dedicatedKeys (replicate 16 0) Han someLine) (replicate 8 0) 0xD0 1 (getRange 0 hourBefore hourAfter));
+    }
+
+dated-sound : sound datedMeter ≡ true
+unfolding sound newMeter acceptedRegisters acceptedColumns validClock realDate realTime fixedBytes daysIn februaryDays periods maxRows maxRegisters maxColumns within
+dated-sound = refl
+
+dated-good : goodRange hourBefore hourAfter ≡ true
+unfolding goodRange later moment dayNumber daysOfYears daysOfMonths validClock realDate realTime fixedBytes daysIn februaryDays
+dated-good = refl
+
+dated-inside : inRange hourBefore hourAfter newClock ≡ true
+unfolding inRange later moment dayNumber daysOfYears daysOfMonths daysIn februaryDays
+dated-inside = refl
+
+dated-asks : Asking Han datedLent someLine Get 1 (getRange 0 hourBefore hourAfter)
+unfolding getRange rangeDescriptor tagOf within inWindow envelopeLength lengthField greatestApdu longestReceived
+dated-asks =
+    record {
+      enough = record { room = omega arith; guk = refl; ak = refl; challenge = refl };
+      may = enclosedGet refl;
+      window = refl;
+      small = lit< tt;
+      short = lit≤ tt;
+      received = refl;
+    }
+
+dated-fits : length (rowsData (datedRow 2 ∷ datedRow 1 ∷ [])) ≤ dataRoom longestSent
+unfolding rowsData rowData flatMap lengthField
+dated-fits = rw data-room (lit≤ tt)
+
+dated-agreed : selectiveIn (Ciphering Han) someLine ≡ true
+unfolding within
+dated-agreed = refl
+
+pub by-date-happens : ByDateHappens
+by-date-happens =
+    record {
+      lent = datedLent;
+      meter = datedMeter;
+      from = hourBefore;
+      to = hourAfter;
+      counter = 1;
+      invoke = 0;
+      newer = datedRow 2;
+      older = datedRow 1;
+      rows = datedRow 2 ∷ datedRow 1 ∷ [];
+      asks = record { isSound = dated-sound; first = refl; last = refl; good = dated-good; agreed = dated-agreed; asks = dated-asks };
+      kept = taken dated-inside (taken dated-inside done);
+      fits = dated-fits;
+      both = record { before = []; between = []; after = []; are = refl };
+      same = refl;
+      inside = dated-inside;
+    }
