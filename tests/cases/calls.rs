@@ -1,9 +1,10 @@
 //! A call in words as lines of the script program: the owner's words, and frames with what is lent to them.
 
 use crate::clocks::clock;
+use crate::fields;
 use crate::hexadecimal::hex;
 use crate::plug::{self, AUTHENTICATION, GUK, METER_CHALLENGE};
-use crate::script::{digits, VERBS};
+use crate::script::{self, digits, VERBS};
 use crate::words::{overlay, Words};
 use reference::clock::Clock;
 use reference::frame::LONGEST_FRAME;
@@ -30,11 +31,14 @@ impl Letters {
 
 /// Whether a call is a line of the script program as it stands.
 pub fn is_line(call: &str) -> bool {
-    call.split(' ').next().is_some_and(|verb| VERBS.contains(&verb))
+    call.split(' ').next().is_some_and(|verb| VERBS.contains(&verb)) || script::read(call).is_some()
 }
 
 /// The lines that a call in words stands for, on the meter as it is.
 pub fn lines(call: &str, meter: &Meter, letters: Letters) -> Result<Vec<String>, String> {
+    if let Some(frame) = call.strip_prefix("explain ") {
+        return explained(&lines(frame, meter, letters)?).map(|line| vec![line]);
+    }
     let mut words = Words::of(call);
     let client = match words.word("a call")? {
         "meter" => return prepared(words),
@@ -50,6 +54,15 @@ pub fn lines(call: &str, meter: &Meter, letters: Letters) -> Result<Vec<String>,
         word => return Err(format!("\"{word}\" begins no call")),
     };
     Ok(frames.iter().map(|frame| lent.line(frame, letters)).collect())
+}
+
+/// The line that asks why one frame would be refused, in the place of the line that receives it.
+fn explained(lines: &[String]) -> Result<String, String> {
+    match lines {
+        [line] => line.strip_prefix("frame").map(|fields| format!("explain{fields}")),
+        _ => None,
+    }
+    .ok_or("one frame is explained at a time".into())
 }
 
 /// What a frame call is lent: the usual, but for what the words say.
@@ -116,6 +129,7 @@ fn changed(mut words: Words, meter: &Meter, letters: Letters) -> Result<String, 
     meter.record_number = words.number_or("number", meter.record_number)?;
     meter.han.sent = words.number_or("sent", meter.han.sent)?;
     let mut image = image::write(&meter, &[0; image::SIZE]);
+    fields::change(&mut words, &mut image)?;
     if let Some(change) = words.option("at") {
         overlay(&mut image, change)?;
     }

@@ -3,36 +3,80 @@
 
 use crate::calls::{self, Letters};
 use crate::hexadecimal::hex;
-use crate::script::{self, Program};
+use crate::script::{self, Line, Program};
 use crate::source::{self, Entry, Expected, Step};
+use reference::explanation::Explanation;
 use reference::receive::Outcome;
 
 /// The number of a request that is denied.
 const DENIED: u8 = 13;
 
-/// The result code in a sealed answer that denies a GET or an ACTION.
-fn denial(answer: &Outcome) -> Option<u8> {
-    match answer.sealed.as_ref()?.plain[..] {
-        [0xC4, 0x01, _, 0x01, code] | [0xC7, 0x01, _, code, 0x00] => Some(code),
-        _ => None,
+/// The second meter's answer to a line; where the line has a frame, with its explanation.
+struct Answer {
+    outcome: Outcome,
+    explanation: Option<Explanation>,
+    /// The line asks for the explanation, and the frame is not received.
+    explains: bool,
+}
+
+impl Answer {
+    /// This answer, where it is the expected one.
+    fn is(self, expected: Expected) -> Result<Answer, String> {
+        let number = match expected {
+            Expected::Number(_) | Expected::Code(_) if self.explains => {
+                return Err("an explanation is expected as NUMBER NAME PLACE".into());
+            }
+            Expected::Number(number) | Expected::Explanation(number, _) => number,
+            Expected::Code(_) => DENIED,
+            _ => return Err("a line that is not a call stands in quotes".into()),
+        };
+        let told = self.explanation.map_or("no explanation".into(), |explanation| explanation.to_string());
+        match expected {
+            Expected::Explanation(_, due) if told != due => Err(format!("the second meter has {told}, not {due}")),
+            _ if self.outcome.number != number => {
+                Err(format!("the second meter answers {}, not {number}", self.outcome.number))
+            }
+            Expected::Code(due) if self.denial() != Some(due) => {
+                Err(format!("the second meter's result code is {:?}, not {due}", self.denial()))
+            }
+            _ => Ok(self),
+        }
+    }
+
+    /// The result code in a sealed answer that denies a GET or an ACTION.
+    fn denial(&self) -> Option<u8> {
+        match self.outcome.sealed.as_ref()?.plain[..] {
+            [0xC4, 0x01, _, 0x01, code] | [0xC7, 0x01, _, code, 0x00] => Some(code),
+            _ => None,
+        }
+    }
+
+    /// As the script program writes it.
+    fn text(&self) -> String {
+        match self.explanation {
+            Some(explanation) if self.explains => explanation.to_string(),
+            _ => script::written(self.outcome.number, &self.outcome.reply),
+        }
     }
 }
 
-/// Calls as the script program reads them, and its answers, as far as they are made; and how many lines of both there were at
-/// the last heading.
+/// Calls as the script program reads them, and its answers, as far as they are made; how many lines of both there were at
+/// the last heading; and the explanation of the last frame.
 pub struct Exchange {
     program: Program,
     letters: Letters,
     input: Vec<Vec<u8>>,
     output: Vec<String>,
     headed: (usize, usize),
+    pub explanation: Option<Explanation>,
 }
 
 impl Exchange {
     pub fn begun(source: &str) -> Exchange {
         let head = format!("# Made by tests/cases/make from {source}: change that source, and make this file again.");
         let input = vec![head.into()];
-        Exchange { program: Program::started(), letters: Letters::Large, input, output: vec![], headed: (1, 0) }
+        let (program, letters) = (Program::started(), Letters::Large);
+        Exchange { program, letters, input, output: vec![], headed: (1, 0), explanation: None }
     }
 
     /// Adds what one line of the source says.
@@ -81,39 +125,40 @@ impl Exchange {
         self.input.extend(name.map(|name| format!("# {name}{plain}").into()));
     }
 
-    /// Lines that can be read. The last one answers the number that is expected, those before it 0.
+    /// Lines that can be read. The last one answers what is expected, those before it 0.
     fn answered(&mut self, name: Option<&str>, lines: Vec<String>, expected: Expected) -> Result<(), String> {
-        let (number, code) = match expected {
-            Expected::Number(number) => (number, None),
-            Expected::Code(code) => (DENIED, Some(code)),
-            _ => return Err("a line that is not a call stands in quotes".into()),
-        };
-        let mut answers = vec![];
-        for line in &lines {
-            let read = script::read(line).ok_or(format!("this line cannot be read: {line}"))?;
-            let answer = self.program.answer(&read);
-            let due = if answers.len() + 1 == lines.len() { number } else { 0 };
-            if answer.number != due {
-                return Err(format!("the second meter answers {}, not {due}", answer.number));
-            }
-            answers.push(answer);
+        let (last, before) = lines.split_last().ok_or("a call has a line")?;
+        let mut texts = vec![];
+        for line in before {
+            texts.push(self.answer(line)?.is(Expected::Number(0))?.text());
         }
-        if let (Some(due), Some(given)) = (code, answers.last().map(denial)) {
-            if given != Some(due) {
-                return Err(format!("the second meter's result code is {given:?}, not {due}"));
-            }
-        }
-        self.comment(name, answers.last());
+        let answer = self.answer(last)?.is(expected)?;
+        texts.push(answer.text());
+        self.comment(name, Some(&answer.outcome));
         self.input.extend(lines.into_iter().map(String::into_bytes));
-        self.output.extend(answers.iter().map(|answer| script::written(answer.number, &answer.reply)));
+        self.output.extend(texts);
         Ok(())
+    }
+
+    /// The second meter's answer to a line. It explains a frame before it receives it.
+    fn answer(&mut self, line: &str) -> Result<Answer, String> {
+        let read = script::read(line).ok_or(format!("this line cannot be read: {line}"))?;
+        let explanation = self.program.explain(&read);
+        let outcome = self.program.answer(&read);
+        self.explanation = explanation.or(self.explanation);
+        match explanation {
+            Some(told) if told.number != outcome.number => {
+                Err(format!("the second meter answers {}, and explains it by {told}", outcome.number))
+            }
+            _ => Ok(Answer { outcome, explanation, explains: matches!(read, Line::Explain(_)) }),
+        }
     }
 
     /// A line as it stands; where it is no call, with the answer that the source brings along.
     fn quoted(&mut self, name: Option<&str>, line: Vec<u8>, expected: Expected) -> Result<(), String> {
         let text = std::str::from_utf8(&line).ok();
         match expected {
-            Expected::Number(_) | Expected::Code(_) => {
+            Expected::Number(_) | Expected::Code(_) | Expected::Explanation(..) => {
                 let text = text.ok_or("this line is no text")?.into();
                 return self.answered(name, vec![text], expected);
             }

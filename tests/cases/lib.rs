@@ -4,6 +4,7 @@ pub mod calls;
 pub mod client;
 pub mod clocks;
 pub mod exchange;
+pub mod fields;
 pub mod hexadecimal;
 pub mod night;
 pub mod plug;

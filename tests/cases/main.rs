@@ -31,7 +31,7 @@ fn main() -> ExitCode {
 
 /// Every file that is made.
 fn made() -> Result<Vec<Made>, String> {
-    Ok(script()?.into_iter().chain(bench()?).chain(day()?).collect())
+    Ok(script()?.into_iter().chain(diagnose()?).chain(bench()?).chain(day()?).collect())
 }
 
 /// The files of the script program, from all files of its source in the order of their names.
@@ -42,6 +42,20 @@ fn script() -> Result<[Made; 2], String> {
     }
     let [input, output] = exchange.files();
     Ok([Made { path: "crates/script/stdin", content: input }, Made { path: "crates/script/stdout", content: output }])
+}
+
+/// What the program `diagnose` reads, and the one line that it prints: the explanation of the last frame.
+fn diagnose() -> Result<[Made; 2], String> {
+    let source = "tests/cases/diagnose.txt";
+    let mut exchange = Exchange::begun(source);
+    each_line(source, |line| exchange.add(line))?;
+    let explanation = exchange.explanation.ok_or(format!("{source} has no frame"))?;
+    let output = format!("{explanation}\n").into();
+    let [input, _] = exchange.files();
+    Ok([
+        Made { path: "crates/diagnose/stdin", content: input },
+        Made { path: "crates/diagnose/stdout", content: output },
+    ])
 }
 
 /// The calls that bench/run measures, and their answers.

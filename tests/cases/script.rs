@@ -2,12 +2,13 @@
 //! line cannot be read, and at which column, is not decided here: such cases bring their answers along.
 
 use crate::hexadecimal::{hex, unhex};
+use reference::explanation::Explanation;
 use reference::image;
 use reference::library::{Call, State};
 use reference::meter::Meter;
 use reference::receive::Outcome;
 
-/// What a line can begin with.
+/// What a call on the meter can begin with.
 pub const VERBS: [&str; 11] =
     ["new", "registers", "value", "columns", "period", "tick", "p5", "power", "frame", "image", "dump"];
 
@@ -24,6 +25,8 @@ pub fn is_silent(line: &[u8]) -> bool {
 /// A line that can be read.
 pub enum Line {
     Call(Call),
+    /// A frame call that is not made: why it would be refused.
+    Explain(Call),
     Image(Vec<u8>),
     Dump,
 }
@@ -39,6 +42,7 @@ pub fn read(line: &str) -> Option<Line> {
     match (verb, &fields[..]) {
         ("image", [image]) => string(image).map(Line::Image),
         ("dump", []) => Some(Line::Dump),
+        ("explain", fields) => call("frame", fields).map(Line::Explain),
         (_, fields) => call(verb, fields).map(Line::Call),
     }
 }
@@ -140,11 +144,23 @@ impl Program {
     pub fn answer(&mut self, line: &Line) -> Outcome {
         match line {
             Line::Call(call) => self.state.answer(call),
+            Line::Explain(call) => {
+                let explanation = self.state.explain(call).expect("a frame is explained");
+                Outcome::silent(explanation.number, explanation.name)
+            }
             Line::Image(image) => self.take(image),
             Line::Dump => {
                 let image = image::write(self.meter(), &[0; image::SIZE]);
                 Outcome { reply: image, ..Outcome::silent(0, "image") }
             }
+        }
+    }
+
+    /// The explanation of the frame that a line has, if it has one, by the meter as it is now.
+    pub fn explain(&self, line: &Line) -> Option<Explanation> {
+        match line {
+            Line::Call(call) | Line::Explain(call) => self.state.explain(call),
+            Line::Image(_) | Line::Dump => None,
         }
     }
 

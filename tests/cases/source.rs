@@ -4,11 +4,13 @@ use crate::hexadecimal::unhex;
 
 /// What a line of the script program has to come to.
 #[derive(Clone, Copy)]
-pub enum Expected {
+pub enum Expected<'a> {
     /// The second meter answers this number.
     Number(u8),
     /// The second meter denies the request, in an envelope, by this result code.
     Code(u8),
+    /// The second meter explains the frame so, and answers this number where it receives it.
+    Explanation(u8, &'a str),
     /// The line cannot be read from this column on.
     Column(usize),
     /// A comment: no answer.
@@ -25,7 +27,7 @@ pub enum Entry<'a> {
 pub struct Step<'a> {
     pub name: Option<&'a str>,
     pub call: &'a str,
-    pub expected: Expected,
+    pub expected: Expected<'a>,
 }
 
 pub fn read(line: &str) -> Result<Entry<'_>, String> {
@@ -54,7 +56,7 @@ fn named(line: &str) -> (Option<&str>, &str) {
 }
 
 /// The call, and what stands behind the last ` > `: no number is 0.
-fn expectation(text: &str) -> Result<(&str, Expected), String> {
+fn expectation(text: &str) -> Result<(&str, Expected<'_>), String> {
     let behind_quotes = text.rfind('"').map_or(0, |last| last + 1);
     let Some(at) = text[behind_quotes..].rfind(" > ") else { return Ok((text, Expected::Number(0))) };
     let (call, wanted) = (&text[..behind_quotes + at], text[behind_quotes + at + 3..].trim());
@@ -63,9 +65,10 @@ fn expectation(text: &str) -> Result<(&str, Expected), String> {
         None => wanted.parse().ok().map(Expected::Number),
         Some(("code", code)) => code.parse().ok().map(Expected::Code),
         Some(("?", column)) => column.parse().ok().map(Expected::Column),
-        Some(_) => None,
+        Some((number, _)) => number.parse().ok().map(|number| Expected::Explanation(number, wanted)),
     };
-    Ok((call, expected.ok_or(format!("\"{wanted}\" is no number, `code CODE`, `? COLUMN` or `nothing`"))?))
+    let forms = "no number, `NUMBER NAME PLACE`, `code CODE`, `? COLUMN` or `nothing`";
+    Ok((call, expected.ok_or(format!("\"{wanted}\" is {forms}"))?))
 }
 
 /// The bytes of a line in quotes: pieces `"TEXT"` or `COUNT*"TEXT"`.

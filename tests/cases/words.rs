@@ -92,9 +92,13 @@ pub fn range<T: FromStr>(text: &str) -> Result<(T, T), String> {
 /// Other bytes at a place, counted from 0: `PLACE:BYTES`.
 pub fn overlay(target: &mut [u8], change: &str) -> Result<(), String> {
     let (place, given) = change.split_once(':').ok_or("at takes PLACE:BYTES")?;
-    let (place, given): (usize, Vec<u8>) = (number(place)?, bytes(given)?);
+    put(target, number(place)?, &bytes(given)?)
+}
+
+/// These bytes in the place of those that stand there.
+pub fn put(target: &mut [u8], place: usize, given: &[u8]) -> Result<(), String> {
     let slot = target.get_mut(place..place + given.len()).ok_or("the bytes end before that place")?;
-    slot.copy_from_slice(&given);
+    slot.copy_from_slice(given);
     Ok(())
 }
 

@@ -3,6 +3,7 @@
 use crate::library::{self, Answer};
 use crate::random::Random;
 use cases::hexadecimal::hex;
+use reference::explanation::Explanation;
 use reference::image;
 use reference::library::{Call, State};
 use reference::receive::Outcome;
@@ -17,9 +18,10 @@ pub struct Bench {
     pub state: State,
 }
 
-/// What both came to, and the reply room as the library left it.
+/// What both came to, why the second meter says a frame did, and the reply room as the library left it.
 pub struct Agreement {
     pub outcome: Outcome,
+    pub explanation: Option<Explanation>,
     pub room: Vec<u8>,
 }
 
@@ -37,6 +39,7 @@ impl Bench {
             _ => vec![],
         };
         let mut room = room_before.clone();
+        let explanation = self.state.explain(call);
         let outcome = self.state.answer(call);
         let offsets = (random.between(16, 23), random.between(16, 23));
         let answer = library::call(call, &mut self.image, &mut room, offsets);
@@ -44,9 +47,10 @@ impl Bench {
             .or_else(|| room_difference(&outcome, &room_before, &room))
             .or_else(|| self.state_difference(&outcome, &image_before))
             .or_else(|| self.byte_difference(&outcome))
-            .or_else(|| self.memory_of_before(random, call, &outcome));
+            .or_else(|| self.memory_of_before(random, call, &outcome))
+            .or_else(|| explained_difference(explanation, &answer));
         match difference {
-            None => Ok(Agreement { outcome, room }),
+            None => Ok(Agreement { outcome, explanation, room }),
             Some(what) => Err(self.told(what, call, &image_before, &outcome, &answer, &room)),
         }
     }
@@ -90,6 +94,7 @@ impl Bench {
             format!("call: {}", told_call(call)),
             format!("state buffer before: {}", hex(image_before)),
             format!("reference: number {} ({}), {} bytes sent", outcome.number, outcome.event, outcome.reply.len()),
+            format!("reference's explanation: {:?}", State::of(image_before).explain(call)),
             format!("reference's reply: {}", hex(&outcome.reply)),
             format!(
                 "library: number {}, {} bytes sent, guards stand: {}",
@@ -113,6 +118,11 @@ fn answer_difference(call: &Call, outcome: &Outcome, answer: &Answer) -> Option<
     }
     let counted = matches!(call, Call::Receive { .. }) && answer.sent != outcome.reply.len();
     counted.then_some("the lengths of what goes out differ")
+}
+
+/// The explanation, which asks no frame call, has the number that the library answers.
+fn explained_difference(explanation: Option<Explanation>, answer: &Answer) -> Option<&'static str> {
+    (explanation?.number != answer.number).then_some("the explanation has another number")
 }
 
 /// The reply stands in front; every byte behind it is as it was lent.

@@ -68,7 +68,7 @@ impl Parts {
 
     /// One field is another than it should be.
     pub fn damage(&mut self, random: &mut Random) {
-        match random.below(12) {
+        match random.below(13) {
             0 => self.format = random.pick(&[0xA8, 0x90, 0xB0, 0x20, 0xE8]),
             1 => self.length_off = random.pick(&[-2, -1, 1, 2, 256, 1024]),
             2 => self.destination = random.pick(&[0x05, 0x01, 0x02, 0xFF, 0xFE, VERIFICATION]),
@@ -80,6 +80,7 @@ impl Parts {
             8 => self.frame_check_off = random.pick(&[1, 0x80, 0xFF]),
             9 => self.flags = random.pick(&[(FLAG, 0), (0, FLAG), (FLAG ^ 1, FLAG ^ 1)]),
             10 => (self.header_check_always, self.information) = (true, vec![]),
+            11 if self.information.len() > 3 => self.information[random.below(3)] ^= 1 << random.below(8),
             _ => self.resize(random),
         }
     }

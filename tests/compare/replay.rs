@@ -19,6 +19,7 @@ pub struct Replay {
     name: String,
     lines: usize,
     unread: usize,
+    explained: usize,
     frames: usize,
     /// How many calls with a bit changed came to each number.
     changed: BTreeMap<u8, usize>,
@@ -32,6 +33,7 @@ pub fn replayed(input: &[u8], output: &str) -> Result<Replay, String> {
         name: String::new(),
         lines: 0,
         unread: 0,
+        explained: 0,
         frames: 0,
         changed: BTreeMap::new(),
     };
@@ -63,6 +65,7 @@ impl Replay {
         let answered = match &line {
             Line::Call(call) => self.call(call)?,
             Line::Image(image) => self.image(image)?,
+            Line::Explain(call) => self.explained(call)?,
             Line::Dump => self.dumped(),
         };
         match answered == answer {
@@ -75,6 +78,13 @@ impl Replay {
         self.every_bit(call)?;
         let outcome = self.bench.call(&mut self.random, call)?.outcome;
         Ok(script::written(outcome.number, &outcome.reply))
+    }
+
+    /// A frame is explained: by the number that it has from the library, where the library receives it on a copy.
+    fn explained(&mut self, call: &Call) -> Result<String, String> {
+        self.explained += 1;
+        let agreement = self.bench.clone().call(&mut self.random, call)?;
+        agreement.explanation.map(|explanation| explanation.to_string()).ok_or("no state explains this frame".into())
     }
 
     /// An image is taken as the state buffer. One that is none is refused by every call; the state buffer stays.
@@ -122,6 +132,7 @@ impl Replay {
         }
         let changed: usize = self.changed.values().sum();
         println!("{:>9}  lines of the cases replayed, {} passed over that cannot be read", self.lines, self.unread);
+        println!("{:>9}  of them explain a frame", self.explained);
         println!("{changed:>9}  calls with a bit changed, of {} frames", self.frames);
     }
 }

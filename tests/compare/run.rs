@@ -1,6 +1,7 @@
 //! A run: one scenario after the other, each a state handed in and calls that go on from it, until enough were compared.
 
 use crate::bench::Bench;
+use crate::explained::Explained;
 use crate::owner;
 use crate::player::Player;
 use crate::random::Random;
@@ -24,6 +25,9 @@ pub struct Run {
     pub samples: Samples,
 }
 
+/// How many calls of a scenario are explained at most: many short ones meet every test.
+const EXPLAINED_STEPS: usize = 12;
+
 /// What stays through one scenario.
 struct Scenario {
     bench: Bench,
@@ -43,6 +47,22 @@ impl Run {
         while self.statistics.calls < self.limit {
             let scenario = self.scenario();
             self.play(scenario)?;
+        }
+        Ok(())
+    }
+
+    /// Adds frame calls until there are as many as the limit, each compared with the library as every call is.
+    pub fn explain(&mut self, explained: &mut Explained, limit: usize) -> Result<(), String> {
+        while explained.frames() < limit {
+            let mut scenario = self.scenario();
+            for _ in 0..scenario.steps.min(EXPLAINED_STEPS) {
+                let call = self.call(&mut scenario);
+                let image = scenario.bench.image.clone();
+                let agreement = scenario.bench.call(&mut self.random, &call)?;
+                if let Some(explanation) = agreement.explanation {
+                    explained.add(&image, &call, explanation);
+                }
+            }
         }
         Ok(())
     }

@@ -310,6 +310,7 @@ fn spoil_lists(random: &mut Random, meter: &mut Meter, clause: Clause) {
         Clause::Period => meter.period = wrong_period(random),
         Clause::Clock => meter.clock = wrong_clock(random),
         Clause::RowClock => meter.rows[row].clock = wrong_clock(random),
+        Clause::RowCount if random.percent(60) => meter.rows.resize(MOST_ROWS, meter.rows[row].clone()),
         Clause::RowCells => {
             meter.rows[row].cells.pop();
         }

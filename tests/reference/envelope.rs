@@ -18,6 +18,27 @@ pub struct Sender {
     pub authentication: Block,
 }
 
+/// An envelope that has its shape: tag, length, control, counter, cipher text and GCM tag, and nothing behind them.
+pub struct Envelope<'a> {
+    pub counter: u32,
+    cipher_text: &'a [u8],
+    seal: &'a [u8],
+}
+
+impl Envelope<'_> {
+    pub fn read(tag: u8, apdu: &[u8]) -> Option<Envelope<'_>> {
+        let mut outer = Reader::new(apdu);
+        let content = outer.part(tag)?;
+        outer.end()?;
+        let mut inner = Reader::new(content);
+        inner.fixed(&[SECURITY_CONTROL])?;
+        let counter = inner.number32()?;
+        let sealed = inner.rest();
+        let (cipher_text, seal) = sealed.split_at(sealed.len().checked_sub(TAG_LENGTH)?);
+        Some(Envelope { counter, cipher_text, seal })
+    }
+}
+
 impl Sender {
     fn nonce(&self, counter: u32) -> gcm::Nonce {
         let mut nonce = [0; 12];
@@ -32,16 +53,14 @@ impl Sender {
 
     /// The counter and the plain text of an envelope, where it has its shape and its tag is right.
     pub fn open(&self, tag: u8, apdu: &[u8]) -> Option<(u32, Vec<u8>)> {
-        let mut outer = Reader::new(apdu);
-        let content = outer.part(tag)?;
-        outer.end()?;
-        let mut inner = Reader::new(content);
-        inner.fixed(&[SECURITY_CONTROL])?;
-        let counter = inner.number32()?;
-        let sealed = inner.rest();
-        let (cipher_text, seal) = sealed.split_at(sealed.len().checked_sub(TAG_LENGTH)?);
-        let plain = gcm::open(&self.key, &self.nonce(counter), &self.associated(), cipher_text, seal)?;
-        Some((counter, plain))
+        let envelope = Envelope::read(tag, apdu)?;
+        Some((envelope.counter, self.opened(&envelope)?))
+    }
+
+    /// The plain text of an envelope whose tag is right.
+    pub fn opened(&self, envelope: &Envelope) -> Option<Vec<u8>> {
+        let Envelope { counter, cipher_text, seal } = *envelope;
+        gcm::open(&self.key, &self.nonce(counter), &self.associated(), cipher_text, seal)
     }
 
     /// The envelope of a plain text under this counter.

@@ -19,7 +19,7 @@ const REPLY_LLC: [u8; 3] = [0xE6, 0xE7, 0x00];
 
 /// The longest information, the longest length field and the longest whole frame.
 pub const LONGEST_INFORMATION: usize = 768;
-const LONGEST_L: usize = LONGEST_INFORMATION + 9;
+pub const LONGEST_L: usize = LONGEST_INFORMATION + 9;
 pub const LONGEST_FRAME: usize = LONGEST_L + 2;
 
 const PRESENT_BIT: u8 = 0x10;

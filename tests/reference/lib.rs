@@ -11,8 +11,10 @@ pub mod bytes;
 pub mod check;
 pub mod clock;
 pub mod envelope;
+pub mod explanation;
 pub mod frame;
 pub mod gcm;
+pub mod given;
 pub mod image;
 #[path = "../../embedding/layout.rs"]
 pub mod layout;

@@ -1,5 +1,6 @@
 //! The calls of include/birlimock.h as the header words them: what each answers on a state buffer, sound or not.
 
+use crate::explanation::Explanation;
 use crate::image::{self, NO_STATE, WRONG_SIZE, WRONG_VERSION};
 use crate::meter::Meter;
 use crate::receive::{Lent, Outcome};
@@ -52,6 +53,12 @@ impl State {
             State::Refused(refusal) => no_state_answer(*refusal, call),
             State::Held(meter) => held_answer(meter, call),
         }
+    }
+
+    /// Why a frame call would be refused, where the buffer is a state. The library itself does not tell.
+    pub fn explain(&self, call: &Call) -> Option<Explanation> {
+        let Call::Receive { frame, guk, authentication, challenge, room } = call else { return None };
+        Some(self.meter()?.explain(frame, &Lent { guk, authentication, challenge, room: *room }))
     }
 
     fn renew(&mut self, meter: Option<Meter>) -> Outcome {

@@ -7,17 +7,17 @@ use crate::envelope::{Challenge, Sender};
 use crate::frame::{self, Head, Received};
 use crate::meter::{Ciphered, Meter, Plain, CHALLENGE};
 use crate::objects;
-use crate::request::{self, Action};
+use crate::request::{self, Action, Target};
 use crate::soundness::{agreed, OFFERED_CIPHERED, OFFERED_PLAIN};
 use crate::value::Value;
 
-const KNOWN_TAGS: [u8; 9] = [0x60, 0x62, 0xC0, 0xC1, 0xC3, 0xCB, 0xD0, 0xD1, 0xD3];
+pub const KNOWN_TAGS: [u8; 9] = [0x60, 0x62, 0xC0, 0xC1, 0xC3, 0xCB, 0xD0, 0xD1, 0xD3];
 const NOT_ALLOWED: [u8; 3] = [0xD8, 0x01, 0x01];
 const NOT_SUPPORTED: [u8; 3] = [0xD8, 0x02, 0x02];
 
-const GET_BIT: u8 = 0x10;
-const SELECTIVE_BIT: u8 = 0x04;
-const ACTION_BIT: u8 = 0x01;
+pub const GET_BIT: u8 = 0x10;
+pub const SELECTIVE_BIT: u8 = 0x04;
+pub const ACTION_BIT: u8 = 0x01;
 
 const WINDOW: u64 = 180;
 const CHALLENGE_CLASS: u16 = 15;
@@ -31,9 +31,9 @@ pub struct Lent<'a> {
     pub room: usize,
 }
 
-struct Keys {
-    guk: Block,
-    authentication: Block,
+pub struct Keys {
+    pub guk: Block,
+    pub authentication: Block,
     challenge: Challenge,
 }
 
@@ -69,7 +69,8 @@ impl Outcome {
 }
 
 impl Lent<'_> {
-    fn keys(&self) -> Option<Keys> {
+    /// The keys and the challenge, where their lengths are right.
+    pub fn keys(&self) -> Option<Keys> {
         Some(Keys {
             guk: self.guk.try_into().ok()?,
             authentication: self.authentication.try_into().ok()?,
@@ -199,7 +200,7 @@ impl Meter {
         }
     }
 
-    fn han_as_sender(&self, keys: &Keys, key: Block) -> Sender {
+    pub fn han_as_sender(&self, keys: &Keys, key: Block) -> Sender {
         Sender { title: self.han.title, key, authentication: keys.authentication }
     }
 
@@ -254,13 +255,18 @@ impl Meter {
         let Some((counter, plain)) = self.han_as_sender(keys, key).open(apdu[0], apdu) else {
             return Err(Outcome::silent(6, "envelope does not open"));
         };
-        let last = u64::from(self.han.accepted);
-        if !(last + 1..=last + WINDOW).contains(&u64::from(counter)) {
+        if !self.is_in_window(counter) {
             self.han.association = Ciphered::Absent;
             return Err(Outcome::silent(7, "counter outside its window"));
         }
         self.han.accepted = counter;
         Ok(plain)
+    }
+
+    /// Greater than the last accepted by at most 180.
+    pub fn is_in_window(&self, counter: u32) -> bool {
+        let last = u64::from(self.han.accepted);
+        (last + 1..=last + WINDOW).contains(&u64::from(counter))
     }
 
     fn sealed_get(&mut self, apdu: &[u8], keys: &Keys, key: Block, agreed: Services) -> Outcome {
@@ -303,8 +309,7 @@ impl Meter {
         let Some(action) = request::read_action(&plain) else {
             return Outcome::exception(NOT_SUPPORTED, "malformed challenge answer");
         };
-        let target = &action.target;
-        if (target.class, target.name, target.number) != (CHALLENGE_CLASS, CHALLENGE, 1) {
+        if !is_to_the_challenge(&action.target) {
             return Outcome::exception(NOT_ALLOWED, "another ACTION while pending");
         }
         self.proof_judged(&action, before, keys)
@@ -317,7 +322,7 @@ impl Meter {
             unreachable!("a challenge is answered while pending");
         };
         let invoke = action.target.invoke;
-        if !self.is_proof(action, before, &meter_challenge, keys) {
+        if !self.is_proof(action, (before, self.han.accepted), &meter_challenge, keys) {
             let answer = request::action_answer(invoke, Err(WRONG_PROOF));
             return self.sealed_answer(0xCF, keys, keys.guk, answer, (13, "proof wrong"));
         }
@@ -328,13 +333,19 @@ impl Meter {
         self.sealed_answer(0xCF, keys, keys.guk, answer, (0, "proof right"))
     }
 
-    fn is_proof(&self, action: &Action, before: u32, challenge: &Challenge, keys: &Keys) -> bool {
+    /// The proof over this challenge, its counter between the last accepted before its envelope and that of the envelope.
+    pub fn is_proof(&self, action: &Action, bounds: (u32, u32), challenge: &Challenge, keys: &Keys) -> bool {
         let Some(Value::OctetString(given)) = &action.parameter else { return false };
         let Some(counter) = given.get(1..5) else { return false };
         let inner = u32::from_be_bytes([counter[0], counter[1], counter[2], counter[3]]);
-        let between = before < inner && inner < self.han.accepted;
+        let between = bounds.0 < inner && inner < bounds.1;
         between && *given == self.han_as_sender(keys, keys.guk).proof(inner, challenge)
     }
+}
+
+/// Whether an ACTION answers the meter's challenge.
+pub fn is_to_the_challenge(target: &Target) -> bool {
+    (target.class, target.name, target.number) == (CHALLENGE_CLASS, CHALLENGE, 1)
 }
 
 /// What a release comes to.

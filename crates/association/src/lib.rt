@@ -1,7 +1,11 @@
-// The clients on the line in code: what a client's association permits, its keys, and, in `change`, what the line becomes
-// (document 01, "The association"). Each answers for every line; crate protocol says what each means.
+// The clients on the line in code: what a client's association permits, its keys, in `challenge` whether it proves itself, and in
+// `change` what the line becomes (document 01, "The association"). Each answers for every line; crate protocol says what each
+// means.
+mod challenge;
 mod change;
 
+pub use challenge::is_challenge;
+pub use challenge::proves_itself;
 pub use change::associated_ciphered;
 pub use change::associated_plain;
 pub use change::ended;
@@ -27,6 +31,7 @@ ghost use Rattle.material.specs.Material.{keysOf};
 ghost use Rattle.line.specs.View.{lineOf};
 ghost use Rattle.protocol.specs.Clients.{agreedIn, bitAgreed, dedicatedKeys, isUnknown, lentKeys, mayAskEnclosed, mayAskPlain, peer, permitted, selectiveIn, serviceAgreed};
 ghost use Rattle.protocol.specs.Decide.{heldByP5};
+ghost use Rattle.association.specs.Lent.{secretsIn};
 
 // Whether P5 holds the client.
 pub fn is_held_by_p5(line: LineState, client: Client) -> bool
@@ -161,6 +166,17 @@ pub fn is_selective(line: LineState, client: Client) -> bool
 {
     let agreed = agreed_in(line, client);
     line::is_within([0x00, 0x00, 0x04], agreed)
+}
+
+// What is lent, as arrays; zeros where there are fewer bytes.
+pub fn secrets_of(guk: &[u8], ak: &[u8], challenge: &[u8]) -> Secrets
+    ensures { λ r. ⌜ r ≡ secretsIn (now (guk .entry)) (now (ak .entry)) (now (challenge .entry)) ⌝ }
+{
+    Secrets {
+        guk: wire::sixteen_at(guk, 0),
+        ak: wire::sixteen_at(ak, 0),
+        challenge: wire::eight_at(challenge, 0),
+    }
 }
 
 // The keys around an association's messages, made ready.

@@ -11,6 +11,7 @@ pub use close::close_envelope;
 pub use close::head_size;
 pub use open::admit_envelope;
 pub use open::open_envelope;
+pub use open::read_shape;
 
 // The longest APDU that a frame brings: a room for any plain text has this size.
 pub const LONGEST_APDU: usize = 765;
@@ -29,7 +30,7 @@ pub enum Admission {
 }
 
 // The counter of an envelope, and where its cipher text and its GCM tag begin; or none, where the bytes are not of that shape.
-enum Shape {
+pub enum Shape {
     Misshapen,
     Shaped {
         counter: u32,

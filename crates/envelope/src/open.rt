@@ -66,7 +66,7 @@ pub fn admit_envelope(
 }
 
 // The counter of an envelope with this tag, and the places of its cipher text and GCM tag.
-fn read_shape(tag: u8, apdu: &[u8]) -> Shape
+pub fn read_shape(tag: u8, apdu: &[u8]) -> Shape
     ensures { λ r. ⌜ r ≡ shapeOf tag (now (apdu .entry)) ⌝ }
 {
     let all = apdu.len();

@@ -69,7 +69,7 @@ pub fn is_line_sound(line: LineState) -> bool
 }
 
 // V's association is none or associated; H's may be pending, too.
-fn kinds_known(line: LineState) -> bool
+pub fn kinds_known(line: LineState) -> bool
     ensures { λ r. ⌜ r ≡ kindsKnown (lineOf line) ⌝ }
 {
     let v = line.verification;
@@ -81,7 +81,7 @@ fn kinds_known(line: LineState) -> bool
     }
 }
 
-fn links_stand(line: LineState) -> bool
+pub fn links_stand(line: LineState) -> bool
     ensures { λ r. ⌜ r ≡ linksStand (lineOf line) ⌝ }
 {
     let v = line.verification;
@@ -92,7 +92,7 @@ fn links_stand(line: LineState) -> bool
     on_link(p)
 }
 
-fn services_offered(line: LineState) -> bool
+pub fn services_offered(line: LineState) -> bool
     ensures { λ r. ⌜ r ≡ servicesOffered (lineOf line) ⌝ }
 {
     let v = line.verification;

@@ -9,7 +9,8 @@ use Rattle.model.specs.declared.Clock.{Clock}
 use Rattle.model.specs.Names.{given}
 use Rattle.model.specs.Clocks.{validClock}
 use Rattle.model.specs.Periods.{permittedPeriod}
-use Rattle.model.specs.Soundness.{registerList, columnList, periodPermitted, clockValid, rowClocksValid, rowCount, rowCells, associationKind, associationOnLink, agreedServices, passes, acceptedRegisters, acceptedColumns, sound, lineSound}
+use Rattle.model.specs.declared.SoundnessTest.the-variants.{RegisterList, ColumnList, PeriodPermitted, ClockValid, RowClocksValid, RowCount, RowCells, AssociationKind, AssociationOnLink, AgreedServices}
+use Rattle.model.specs.Soundness.{passes, acceptedRegisters, acceptedColumns, sound, lineSound}
 use Rattle.model.specs.Calls.{OwnerCall, owner, giveRegisters, setValue, setColumns, setPeriod, tick, setP5, powerUp, refused, done, Protocol, ticked, poweredLine, act, step}
 use Rattle.model.proofs.ListLaws.{both}
 use Rattle.store.specs.declared.Registers.{Registers}
@@ -36,9 +37,9 @@ regroup a b c d e f g h i j = simp (and-assoc, and-true)
 pub sound-is : (m : Meter) → sound (view m) ≡ (bodySound (bodyOf (m .body)) && lineSound (lineOf (m .line)))
 unfolding sound bodySound rowsSound view
 sound-is m =
-    regroup (passes registerList (view m)) (passes columnList (view m)) (passes periodPermitted (view m)) (passes clockValid (view m))
-    (passes rowClocksValid (view m)) (passes rowCount (view m)) (passes rowCells (view m)) (passes associationKind (view m))
-    (passes associationOnLink (view m)) (passes agreedServices (view m))
+    regroup (passes RegisterList (view m)) (passes ColumnList (view m)) (passes PeriodPermitted (view m)) (passes ClockValid (view m))
+    (passes RowClocksValid (view m)) (passes RowCount (view m)) (passes RowCells (view m)) (passes AssociationKind (view m))
+    (passes AssociationOnLink (view m)) (passes AgreedServices (view m))
 
 pub sound-body : (m : Meter) → sound (view m) ≡ true → bodySound (bodyOf (m .body)) ≡ true
 sound-body m s = both (bodySound (bodyOf (m .body))) (lineSound (lineOf (m .line))) (sym (sound-is m) ∙ s) .0

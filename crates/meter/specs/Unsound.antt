@@ -14,7 +14,9 @@ use Rattle.model.specs.Limits.{maxRegisters, maxColumns}
 use Rattle.model.specs.Names.{every, distinct, allAmong, noneAmong, nameOf}
 use Rattle.model.specs.State.{Model, withBody, withStore, withRows}
 use Rattle.model.specs.Objects.{ownNames, profileNamed}
-use Rattle.model.specs.Soundness.{SoundnessTest, registerList, columnList, periodPermitted, clockValid, rowClocksValid, rowCount, rowCells, associationKind, associationOnLink, agreedServices, passes, soundnessTests, sound}
+use Rattle.model.specs.declared.SoundnessTest.{SoundnessTest}
+use Rattle.model.specs.declared.SoundnessTest.the-variants.{RegisterList, ColumnList, PeriodPermitted, ClockValid, RowClocksValid, RowCount, RowCells, AssociationKind, AssociationOnLink, AgreedServices}
+use Rattle.model.specs.Soundness.{passes, soundnessTests, sound}
 use Rattle.model.specs.Calls.{OwnerCall}
 use Rattle.store.specs.declared.Registers.{Registers}
 use Rattle.store.specs.declared.Columns.{Columns}
@@ -206,36 +208,36 @@ breaks t rs m = record { meter = m; tests = t ∷ []; rules = rs }
 unfoldable pub unsoundMeters : List Unsound
 unsoundMeters =
     -- seventeen registers, a count above the capacity; a name twice; the name of the profile
-    breaks registerList (fewRegisters ∷ []) (meterOf v h now 900 (registers 17 names) two taken)
-    ∷ breaks registerList (distinctRegisters ∷ []) (meterOf v h now 900 (registers 3 (set names 2 (name 1))) two taken)
-    ∷ breaks registerList (noOwnNames ∷ []) (meterOf v h now 900 (registers 3 (set names 2 profileNamed)) two taken)
+    breaks RegisterList (fewRegisters ∷ []) (meterOf v h now 900 (registers 17 names) two taken)
+    ∷ breaks RegisterList (distinctRegisters ∷ []) (meterOf v h now 900 (registers 3 (set names 2 (name 1))) two taken)
+    ∷ breaks RegisterList (noOwnNames ∷ []) (meterOf v h now 900 (registers 3 (set names 2 profileNamed)) two taken)
     -- seventeen columns, a count above the capacity: of sixteen registers one column is then not given; a column twice; a
     -- column whose register stands behind the three that are given
-    ∷ breaks columnList (givenColumns ∷ fewColumns ∷ []) (meterOf v h now 900 (registers 16 names) (columns 17 names) (rows 0 (row now 2)))
-    ∷ breaks columnList (distinctColumns ∷ []) (meterOf v h now 900 three (columns 2 (set names 1 (name 1))) taken)
-    ∷ breaks columnList (givenColumns ∷ []) (meterOf v h now 900 three (columns 2 (set names 1 (name 4))) taken)
+    ∷ breaks ColumnList (givenColumns ∷ fewColumns ∷ []) (meterOf v h now 900 (registers 16 names) (columns 17 names) (rows 0 (row now 2)))
+    ∷ breaks ColumnList (distinctColumns ∷ []) (meterOf v h now 900 three (columns 2 (set names 1 (name 1))) taken)
+    ∷ breaks ColumnList (givenColumns ∷ []) (meterOf v h now 900 three (columns 2 (set names 1 (name 4))) taken)
     -- a period that is no multiple of 30; one that does not divide 3600
-    ∷ fails periodPermitted (meterOf v h now 45 three two taken)
-    ∷ fails periodPermitted (meterOf v h now 210 three two taken)
+    ∷ fails PeriodPermitted (meterOf v h now 45 three two taken)
+    ∷ fails PeriodPermitted (meterOf v h now 210 three two taken)
     -- 29 February 2017, as the meter's clock; hour 24, in a row
-    ∷ fails clockValid (meterOf v h (clock 2 29 2) 900 three two taken)
-    ∷ fails rowClocksValid (meterOf v h now 900 three two (rows 2 (row (clock 3 1 24) 2)))
+    ∷ fails ClockValid (meterOf v h (clock 2 29 2) 900 three two taken)
+    ∷ fails RowClocksValid (meterOf v h now 900 three two (rows 2 (row (clock 3 1 24) 2)))
     -- sixteen rows, a count above the capacity: the struct has no clock for the sixteenth, which is then not valid either
-    ∷ record { meter = meterOf v h now 900 three (columns 0 names) (rows 16 (row now 0)); tests = rowClocksValid ∷ rowCount ∷ []; rules = [] }
+    ∷ record { meter = meterOf v h now 900 three (columns 0 names) (rows 16 (row now 0)); tests = RowClocksValid ∷ RowCount ∷ []; rules = [] }
     -- a row with a cell too few; one too many; seventeen, a count above the capacity
-    ∷ fails rowCells (meterOf v h now 900 three two (rows 1 (row now 1)))
-    ∷ fails rowCells (meterOf v h now 900 three two (rows 1 (row now 3)))
-    ∷ fails rowCells (meterOf v h now 900 three two (rows 1 (row now 17)))
+    ∷ fails RowCells (meterOf v h now 900 three two (rows 1 (row now 1)))
+    ∷ fails RowCells (meterOf v h now 900 three two (rows 1 (row now 3)))
+    ∷ fails RowCells (meterOf v h now 900 three two (rows 1 (row now 17)))
     -- an association of V that is pending, which is no kind of V's
-    ∷ fails associationKind (meterOf (party true Pending 0x14) h now 900 three two taken)
+    ∷ fails AssociationKind (meterOf (party true Pending 0x14) h now 900 three two taken)
     -- an association of V, and either kind of H, on a link that is down
-    ∷ fails associationOnLink (meterOf (party false Associated 0x14) h now 900 three two taken)
-    ∷ fails associationOnLink (meterOf v (party false Pending 0x15) now 900 three two taken)
-    ∷ fails associationOnLink (meterOf v (party false Associated 0x15) now 900 three two taken)
+    ∷ fails AssociationOnLink (meterOf (party false Associated 0x14) h now 900 three two taken)
+    ∷ fails AssociationOnLink (meterOf v (party false Pending 0x15) now 900 three two taken)
+    ∷ fails AssociationOnLink (meterOf v (party false Associated 0x15) now 900 three two taken)
     -- services agreed with V, and in either kind with H, that are not offered
-    ∷ fails agreedServices (meterOf (party true Associated 0x15) h now 900 three two taken)
-    ∷ fails agreedServices (meterOf v (party true Pending 0x17) now 900 three two taken)
-    ∷ fails agreedServices (meterOf v (party true Associated 0x17) now 900 three two taken)
+    ∷ fails AgreedServices (meterOf (party true Associated 0x15) h now 900 three two taken)
+    ∷ fails AgreedServices (meterOf v (party true Pending 0x17) now 900 three two taken)
+    ∷ fails AgreedServices (meterOf v (party true Associated 0x17) now 900 three two taken)
     ∷ []
 
 -- "at most 15 rows" by itself: what the sound meter holds, with sixteen rows that are otherwise as they should be. The
@@ -253,7 +255,7 @@ pub record VerdictsRight : Type 0 where
   pub unsound :
       map (λ e. verdict (e .meter)) unsoundMeters
       ≡ map (λ e. record { holdable = true; isSound = false; tests = e .tests; rules = e .rules }) unsoundMeters
-  pub sixteen : failedTests sixteenRows ≡ rowCount ∷ []
+  pub sixteen : failedTests sixteenRows ≡ RowCount ∷ []
 
 -- refusal 3, and the very meter back
 abbrev pub Answers3 : Meter → Type 0

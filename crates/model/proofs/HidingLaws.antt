@@ -14,7 +14,9 @@ use Rattle.model.specs.Limits.{maxRows}
 use Rattle.model.specs.Names.{seat, place, given, bearing, blankRegister, withValue, assigned, nameOf}
 use Rattle.model.specs.Clocks.{validClock}
 use Rattle.model.specs.State.{Entry, Store, Body, Model, withCells}
-use Rattle.model.specs.Soundness.{SoundnessTest, registerList, columnList, periodPermitted, clockValid, rowClocksValid, rowCount, rowCells, associationKind, associationOnLink, agreedServices, passes, acceptedRegisters, acceptedColumns, soundnessTests, sound}
+use Rattle.model.specs.declared.SoundnessTest.{SoundnessTest}
+use Rattle.model.specs.declared.SoundnessTest.the-variants.{RegisterList, ColumnList, PeriodPermitted, ClockValid, RowClocksValid, RowCount, RowCells, AssociationKind, AssociationOnLink, AgreedServices}
+use Rattle.model.specs.Soundness.{passes, acceptedRegisters, acceptedColumns, soundnessTests, sound}
 use Rattle.model.specs.Clocks.{clockData}
 use Rattle.model.specs.Objects.{unsigned16, unsigned32, rowData, rowsData}
 use Rattle.model.specs.Calls.{cellsNow, rowNow}
@@ -166,18 +168,18 @@ module _ (ch : Chosen) where
   columns-hidden rs cs = simp names-hidden
 
   pub passes-hidden : (t : SoundnessTest) (m : Model) → passes t (hidden ch m) ≡ passes t m
-  passes-hidden registerList m = accepted-hidden (m .body .store .registers)
-  passes-hidden columnList m = columns-hidden (m .body .store .registers) (m .body .store .columns)
-  passes-hidden periodPermitted m = refl
-  passes-hidden clockValid m = refl
-  passes-hidden rowClocksValid m = every-map (λ i r. validClock (r .clock)) (hideEntry ch (m .body .store .columns)) 0 (m .body .store .rows)
-  passes-hidden rowCount m = ap (λ (n : ℕ). leb n maxRows) (length-map (m .body .store .rows) (hideEntry ch (m .body .store .columns)))
-  passes-hidden rowCells m =
+  passes-hidden RegisterList m = accepted-hidden (m .body .store .registers)
+  passes-hidden ColumnList m = columns-hidden (m .body .store .registers) (m .body .store .columns)
+  passes-hidden PeriodPermitted m = refl
+  passes-hidden ClockValid m = refl
+  passes-hidden RowClocksValid m = every-map (λ i r. validClock (r .clock)) (hideEntry ch (m .body .store .columns)) 0 (m .body .store .rows)
+  passes-hidden RowCount m = ap (λ (n : ℕ). leb n maxRows) (length-map (m .body .store .rows) (hideEntry ch (m .body .store .columns)))
+  passes-hidden RowCells m =
       every-map (λ i r. eqb (length (r .cells)) (length (m .body .store .columns))) (hideEntry ch (m .body .store .columns)) 0 (m .body .store .rows)
       ∙ simp length-cells
-  passes-hidden associationKind m = refl
-  passes-hidden associationOnLink m = refl
-  passes-hidden agreedServices m = refl
+  passes-hidden AssociationKind m = refl
+  passes-hidden AssociationOnLink m = refl
+  passes-hidden AgreedServices m = refl
 
   pub sound-hidden : (m : Model) → sound (hidden ch m) ≡ sound m
   unfolding sound

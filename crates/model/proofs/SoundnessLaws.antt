@@ -8,7 +8,9 @@ use lib.Dec.{lit<}
 use lib.ListN.{length, getD}
 use Rattle.model.specs.Names.{every}
 use Rattle.model.specs.State.{Model}
-use Rattle.model.specs.Soundness.{SoundnessTest, registerList, columnList, periodPermitted, clockValid, rowClocksValid, rowCount, rowCells, associationKind, associationOnLink, agreedServices, passes, soundnessTests, sound}
+use Rattle.model.specs.declared.SoundnessTest.{SoundnessTest}
+use Rattle.model.specs.declared.SoundnessTest.the-variants.{RegisterList, ColumnList, PeriodPermitted, ClockValid, RowClocksValid, RowCount, RowCells, AssociationKind, AssociationOnLink, AgreedServices}
+use Rattle.model.specs.Soundness.{passes, soundnessTests, sound}
 use Rattle.model.proofs.ListLaws.{both, both-true}
 
 every-from : {A : Type 0} {f : A → Bool} → ((x : A) → f x ≡ true) → (i : ℕ) (xs : List A) → every (λ j x. f x) i xs ≡ true
@@ -28,17 +30,17 @@ pub sound-passes : (m : Model) → sound m ≡ true → (t : SoundnessTest) → 
 unfolding sound
 sound-passes m h t = go t
   where
-    at : (k : ℕ) → k < length soundnessTests → passes (getD soundnessTests k registerList) m ≡ true
-    at = tested (λ t. passes t m) registerList 0 soundnessTests h
+    at : (k : ℕ) → k < length soundnessTests → passes (getD soundnessTests k RegisterList) m ≡ true
+    at = tested (λ t. passes t m) RegisterList 0 soundnessTests h
 
     go : (t : SoundnessTest) → passes t m ≡ true
-    go registerList = at 0 (lit< tt)
-    go columnList = at 1 (lit< tt)
-    go periodPermitted = at 2 (lit< tt)
-    go clockValid = at 3 (lit< tt)
-    go rowClocksValid = at 4 (lit< tt)
-    go rowCount = at 5 (lit< tt)
-    go rowCells = at 6 (lit< tt)
-    go associationKind = at 7 (lit< tt)
-    go associationOnLink = at 8 (lit< tt)
-    go agreedServices = at 9 (lit< tt)
+    go RegisterList = at 0 (lit< tt)
+    go ColumnList = at 1 (lit< tt)
+    go PeriodPermitted = at 2 (lit< tt)
+    go ClockValid = at 3 (lit< tt)
+    go RowClocksValid = at 4 (lit< tt)
+    go RowCount = at 5 (lit< tt)
+    go RowCells = at 6 (lit< tt)
+    go AssociationKind = at 7 (lit< tt)
+    go AssociationOnLink = at 8 (lit< tt)
+    go AgreedServices = at 9 (lit< tt)

@@ -16,7 +16,9 @@ use Rattle.model.specs.Names.{every, bearing, blankRegister, place, assi
 use Rattle.model.specs.Clocks.{validClock, realDate, realTime, fixedBytes, daysIn, februaryDays}
 use Rattle.model.specs.Periods.{periods, permittedPeriod, captureDue}
 use Rattle.model.specs.State.{Entry, Store, Body, Model, withLine, withBody, withStore, keeping, withRows, withRegisters, withClock, withNumber, withPeriod, withP5, newMeter}
-use Rattle.model.specs.Soundness.{SoundnessTest, registerList, columnList, periodPermitted, clockValid, rowClocksValid, rowCount, rowCells, associationKind, associationOnLink, agreedServices, passes, acceptedRegisters, acceptedColumns, kindsKnown, linksStand, servicesOffered, sound, lineSound}
+use Rattle.model.specs.declared.SoundnessTest.{SoundnessTest}
+use Rattle.model.specs.declared.SoundnessTest.the-variants.{RegisterList, ColumnList, PeriodPermitted, ClockValid, RowClocksValid, RowCount, RowCells, AssociationKind, AssociationOnLink, AgreedServices}
+use Rattle.model.specs.Soundness.{passes, acceptedRegisters, acceptedColumns, kindsKnown, linksStand, servicesOffered, sound, lineSound}
 use Rattle.model.specs.Objects.{Content, simple, rows, recordNumber, register, Meaning, known, unknown, meaning, Service, get, action, Request, Result, granted, denied, methodInvoked, afterMethod, afterAction, answered, turned}
 use Rattle.model.specs.Calls.{Call, frame, owner, OwnerCall, ownRefusal, obeyed, giveRegisters, setValue, setColumns, setPeriod, tick, setP5, powerUp, Outcome, Decision, answer, serve, Protocol, decided, nextNumber, rowNow, captured, ticked, act, early, step}
 use Rattle.model.specs.Archive.{NewMeterSound, lineAfter, KeepsLines, StaysSound}
@@ -45,13 +47,13 @@ good-body : (m : Model) → sound m ≡ true → GoodBody (m .body)
 good-body m s =
     let h = sound-passes m s in
     record {
-      store = record { registers = h registerList; columns = h columnList; clocks = h rowClocksValid; count = h rowCount; cells = h rowCells };
-      period = h periodPermitted;
-      clock = h clockValid;
+      store = record { registers = h RegisterList; columns = h ColumnList; clocks = h RowClocksValid; count = h RowCount; cells = h RowCells };
+      period = h PeriodPermitted;
+      clock = h ClockValid;
     }
 
 good-line : (m : Model) → sound m ≡ true → lineSound (m .line) ≡ true
-good-line m s = let h = sound-passes m s in both-true (both-true (h associationKind) (h associationOnLink)) (h agreedServices)
+good-line m s = let h = sound-passes m s in both-true (both-true (h AssociationKind) (h AssociationOnLink)) (h AgreedServices)
 
 sound-of : (m : Model) → GoodBody (m .body) → lineSound (m .line) ≡ true → sound m ≡ true
 sound-of m g e = sound-from m go
@@ -60,16 +62,16 @@ sound-of m g e = sound-from m go
     inner = both (kindsKnown (m .line) && linksStand (m .line)) (servicesOffered (m .line)) e .0
 
     go : (t : SoundnessTest) → passes t m ≡ true
-    go registerList = g .store .registers
-    go columnList = g .store .columns
-    go periodPermitted = g .period
-    go clockValid = g .clock
-    go rowClocksValid = g .store .clocks
-    go rowCount = g .store .count
-    go rowCells = g .store .cells
-    go associationKind = both (kindsKnown (m .line)) (linksStand (m .line)) inner .0
-    go associationOnLink = both (kindsKnown (m .line)) (linksStand (m .line)) inner .1
-    go agreedServices = both (kindsKnown (m .line) && linksStand (m .line)) (servicesOffered (m .line)) e .1
+    go RegisterList = g .store .registers
+    go ColumnList = g .store .columns
+    go PeriodPermitted = g .period
+    go ClockValid = g .clock
+    go RowClocksValid = g .store .clocks
+    go RowCount = g .store .count
+    go RowCells = g .store .cells
+    go AssociationKind = both (kindsKnown (m .line)) (linksStand (m .line)) inner .0
+    go AssociationOnLink = both (kindsKnown (m .line)) (linksStand (m .line)) inner .1
+    go AgreedServices = both (kindsKnown (m .line) && linksStand (m .line)) (servicesOffered (m .line)) e .1
 
 -- Each change of the body keeps it good.
 

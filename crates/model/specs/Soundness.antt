@@ -9,6 +9,8 @@ use Rattle.model.specs.declared.Client.{Client}
 use Rattle.model.specs.declared.Client.the-variants.{Verification, Ciphering}
 use Rattle.model.specs.declared.CipherClient.the-variants.{Han}
 use Rattle.model.specs.declared.Register.{Register}
+use Rattle.model.specs.declared.SoundnessTest.{SoundnessTest}
+use Rattle.model.specs.declared.SoundnessTest.the-variants.{RegisterList, ColumnList, PeriodPermitted, ClockValid, RowClocksValid, RowCount, RowCells, AssociationKind, AssociationOnLink, AgreedServices}
 use Rattle.model.specs.Limits.{maxRows, maxRegisters, maxColumns}
 use Rattle.model.specs.Names.{every, distinct, allAmong, noneAmong, nameOf}
 use Rattle.model.specs.Clocks.{validClock}
@@ -70,36 +72,32 @@ lineSound l = kindsKnown l && linksStand l && servicesOffered l
 
 -- The tests.
 
-pub data SoundnessTest : Type 0 where
-  registerList columnList periodPermitted clockValid rowClocksValid rowCount rowCells : SoundnessTest
-  associationKind associationOnLink agreedServices : SoundnessTest
-
 -- the state passes the test
 abbrev pub passes : SoundnessTest → Model → Bool
-passes registerList m = acceptedRegisters (m .body .store .registers)
-passes columnList m = acceptedColumns (m .body .store .registers) (m .body .store .columns)
-passes periodPermitted m = permittedPeriod (m .body .period)
-passes clockValid m = validClock (m .body .clock)
-passes rowClocksValid m = every (λ i r. validClock (r .clock)) 0 (m .body .store .rows)
-passes rowCount m = leb (length (m .body .store .rows)) maxRows
-passes rowCells m = every (λ i r. eqb (length (r .cells)) (length (m .body .store .columns))) 0 (m .body .store .rows)
-passes associationKind m = kindsKnown (m .line)
-passes associationOnLink m = linksStand (m .line)
-passes agreedServices m = servicesOffered (m .line)
+passes RegisterList m = acceptedRegisters (m .body .store .registers)
+passes ColumnList m = acceptedColumns (m .body .store .registers) (m .body .store .columns)
+passes PeriodPermitted m = permittedPeriod (m .body .period)
+passes ClockValid m = validClock (m .body .clock)
+passes RowClocksValid m = every (λ i r. validClock (r .clock)) 0 (m .body .store .rows)
+passes RowCount m = leb (length (m .body .store .rows)) maxRows
+passes RowCells m = every (λ i r. eqb (length (r .cells)) (length (m .body .store .columns))) 0 (m .body .store .rows)
+passes AssociationKind m = kindsKnown (m .line)
+passes AssociationOnLink m = linksStand (m .line)
+passes AgreedServices m = servicesOffered (m .line)
 
 -- in the order of document 01
 abbrev pub soundnessTests : List SoundnessTest
 soundnessTests =
-    registerList
-    ∷ columnList
-    ∷ periodPermitted
-    ∷ clockValid
-    ∷ rowClocksValid
-    ∷ rowCount
-    ∷ rowCells
-    ∷ associationKind
-    ∷ associationOnLink
-    ∷ agreedServices
+    RegisterList
+    ∷ ColumnList
+    ∷ PeriodPermitted
+    ∷ ClockValid
+    ∷ RowClocksValid
+    ∷ RowCount
+    ∷ RowCells
+    ∷ AssociationKind
+    ∷ AssociationOnLink
+    ∷ AgreedServices
     ∷ []
 
 -- "sound"

@@ -1,5 +1,5 @@
-// The types that the model of a meter shares with the code: the clients, names, clocks, registers and counters. There are no
-// functions: what a meter holds and does is defined in specs/, and demand 3 is proved over it in proofs/.
+// The types that the model of a meter shares with the code: the clients, names, clocks, registers and counters, and the tests of
+// soundness. There are no functions: what a meter holds and does is defined in specs/, and demand 3 is proved over it in proofs/.
 
 // The clients of the link that cipher: "H" of document 01.
 pub enum CipherClient {
@@ -35,4 +35,18 @@ pub struct Register {
 pub struct Counters {
     pub accepted: u32,
     pub sent: u32,
+}
+
+// The tests of a sound state, in the order of document 01.
+pub enum SoundnessTest {
+    RegisterList,
+    ColumnList,
+    PeriodPermitted,
+    ClockValid,
+    RowClocksValid,
+    RowCount,
+    RowCells,
+    AssociationKind,
+    AssociationOnLink,
+    AgreedServices,
 }

@@ -3,8 +3,6 @@ use mathlib.Core.Path.{_≡_}
 use mathlib.Core.Bool.{true}
 use mathlib.Core.List.{List}
 use Prim.Native.Nat.{ℕ}
-use lib.ListN.{replicate}
-use Rattle.wire.specs.Reading.{filled}
 use Rattle.model.specs.Periods.{listed}
 use Rattle.model.specs.Calls.{Lent, frame}
 use Rattle.model.specs.Demand3.{Promised}
@@ -12,18 +10,12 @@ use Rattle.meter.specs.declared.Meter.{Meter}
 use Rattle.meter.specs.View.{view}
 use Rattle.protocol.specs.Decide.{p2}
 use Rattle.protocol.specs.Outcomes.{keeping}
-use Rattle.protocol.specs.declared.Secrets.{Secrets}
 use Rattle.ending.specs.declared.Received.{Received}
 use Rattle.ending.specs.Handed.{handed, LeavesNothing}
 
 -- what is lent to a call: of the reply room its length
 abbrev pub lent : (room : ℕ) → (guk ak challenge received : List ℕ) → Lent
 lent n g k c f = record { room = n; guk = g; ak = k; challenge = c; received = f }
-
--- the keys and the challenge as arrays; zeros where there are fewer bytes
-abbrev pub secretsIn : (guk ak challenge : List ℕ) → Secrets
-secretsIn g k c =
-    record { guk = filled g 0 (replicate 16 0); ak = filled k 0 (replicate 16 0); challenge = filled c 0 (replicate 8 0) }
 
 -- the frame call: the model's promise at this protocol; where the meter is unchanged, the very meter comes back; and nothing is
 -- left of an association that ended, or of challenges that were answered. For 0, 7, 12 and 13 all else that the view does not show is

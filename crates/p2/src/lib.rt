@@ -17,7 +17,7 @@ ghost use Rattle.hdlc.specs.Reading.{readFrame};
 ghost use Rattle.line.specs.View.{lineOf};
 ghost use Rattle.protocol.specs.Decide.{heard};
 ghost use Rattle.ending.specs.Inner.{Follows, Ready, received};
-ghost use Rattle.p2.specs.Promise.{Answered, lent, secretsIn};
+ghost use Rattle.p2.specs.Promise.{Answered, lent};
 
 // The reply room that a call asks for.
 const REPLY_ROOM: usize = 779;
@@ -40,7 +40,7 @@ pub fn receive(
     if !meter::is_sound(meter) {
         return refused(3, meter);
     }
-    let secrets = secrets_of(guk, ak, challenge);
+    let secrets = association::secrets_of(guk, ak, challenge);
     hear(meter, secrets, frame, reply)
 }
 
@@ -71,17 +71,6 @@ fn refused(refusal: u8, meter: Meter) -> Received
         refusal,
         count: 0,
         meter,
-    }
-}
-
-// What is lent, as arrays; zeros where there are fewer bytes.
-fn secrets_of(guk: &[u8], ak: &[u8], challenge: &[u8]) -> Secrets
-    ensures { λ r. ⌜ r ≡ secretsIn (now (guk .entry)) (now (ak .entry)) (now (challenge .entry)) ⌝ }
-{
-    Secrets {
-        guk: wire::sixteen_at(guk, 0),
-        ak: wire::sixteen_at(ak, 0),
-        challenge: wire::eight_at(challenge, 0),
     }
 }
 

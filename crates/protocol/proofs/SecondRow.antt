@@ -20,7 +20,8 @@ use Rattle.model.specs.Clocks.{februaryDays, daysIn, realDate, realTime, fixedB
 use Rattle.model.specs.Periods.{periods, captureDue}
 use Rattle.model.specs.Services.{within}
 use Rattle.model.specs.State.{Association, none, pending, associated, Peer, Line, Entry, Body, Model, withLine, newPeer, noCounters, newClock, newMeter}
-use Rattle.model.specs.Soundness.{acceptedRegisters, acceptedColumns, isNone, associationOnLink, linksStand, onLink, sound}
+use Rattle.model.specs.declared.SoundnessTest.the-variants.{AssociationOnLink}
+use Rattle.model.specs.Soundness.{acceptedRegisters, acceptedColumns, isNone, linksStand, onLink, sound}
 use Rattle.model.specs.Selecting.{described}
 use Rattle.model.specs.Objects.{Request, Turn, granted, rowData, rowsData, attributeData, fitting, attributeRead, getAnswer, turned}
 use Rattle.model.specs.Calls.{Lent, owner, tick, Outcome, captured, serve, decided, step}
@@ -124,7 +125,7 @@ next-counter c a m kind counter text q s k r =
     let n = length-envelope (dedicatedKeys (a .ak) c l) (ciphering c l .peer .title) (dedicatedTag kind) counter text in
     let size = envelope-size (length text) in
     let short = k .short in
-    let link = on-link c l (sound-passes m s associationOnLink) in
+    let link = on-link c l (sound-passes m s AssociationOnLink) in
     let reached = ruled-request l a (Ciphering c) env (k .received) (omega arith) (omega arith) in
     let asked = inside-carried c l a (headIn a) (up-of (ciphering c l .peer) link (may-associated (k .may))) counter text q kind k r in
     outcome-ruled a m (k .enough) s

@@ -1,6 +1,11 @@
 // The calls of the script program, a function for each verb: the fields are read to the end of the line, and then the call is
 // made. A line that cannot be read makes no call and leaves the meter as it is. The program `day` makes its owner's calls by
-// the same lines, and its frame calls by `receive`.
+// the same lines, and its frame calls by `receive`. In `session` the lines of a whole input.
+pub mod session;
+
+use call_tests::Finding;
+use diagnosis::Explained;
+use hdlc::Place;
 use meter::Changed;
 use meter::Meter;
 use model::Clock;
@@ -15,13 +20,22 @@ use script_text::verbs::Verb;
 // The most bytes of a byte string and of the reply buffer.
 const MOST: usize = 4096;
 
-// What a line comes to: the meter; the column of the first character that cannot be read, or 0; the number of the refusal,
-// or 0; and how many bytes of the reply buffer are the reply.
+// What kind of line it is: a call on the current meter, one that makes another the current one, or a frame that is explained.
+pub enum Kind {
+    Call,
+    Meter,
+    Explanation,
+}
+
+// What a line comes to: its kind, where it can be read; the meter; the column of the first character that cannot be read, or 0; the
+// number of the refusal, or 0; how many bytes of the reply buffer are the reply; and what is told of a frame that is explained.
 pub struct Done {
+    pub kind: Kind,
     pub meter: Meter,
     pub column: usize,
     pub refusal: u8,
     pub count: usize,
+    pub explained: Explained,
 }
 
 // The call of a line, or of the first characters of one that is too long.
@@ -33,10 +47,27 @@ pub fn made(meter: Meter, line: &[u8], is_whole: bool, reply: &mut [u8]) -> Done
     let c = spoken.cursor;
     let verb = spoken.verb;
     match verb {
-        Verb::Frame => frame(meter, line, c, reply),
+        Verb::Frame => frame(meter, line, c, reply, false),
+        Verb::Explain => frame(meter, line, c, reply, true),
         Verb::Image => take_image(meter, line, c),
         Verb::Dump => dump(meter, line, c, reply),
         _ => by_owner(meter, line, spoken, 0),
+    }
+}
+
+// What is told of the frame of a line, received or explained; of any other line nothing, and no call is made.
+pub fn explained(meter: Meter, line: &[u8], is_whole: bool) -> Done {
+    if !is_whole {
+        return unread(meter, fields::wrong(lines::LONGEST));
+    }
+    let mut none = [0u8; 0];
+    let spoken = verbs::verb_of(line);
+    let c = spoken.cursor;
+    let verb = spoken.verb;
+    match verb {
+        Verb::Frame => frame(meter, line, c, &mut none, true),
+        Verb::Explain => frame(meter, line, c, &mut none, true),
+        _ => without_reply(0, meter),
     }
 }
 
@@ -74,7 +105,7 @@ fn new(meter: Meter, line: &[u8], from: Cursor) -> Done {
     if !end.good {
         return unread(meter, end);
     }
-    without_reply(0, Meter::new(name, title, verification, han))
+    replaced(0, Meter::new(name, title, verification, han))
 }
 
 fn registers(meter: Meter, line: &[u8], from: Cursor) -> Done {
@@ -144,7 +175,8 @@ fn power(meter: Meter, line: &[u8], from: Cursor) -> Done {
     changed(meter.power_up())
 }
 
-fn frame(meter: Meter, line: &[u8], from: Cursor, reply: &mut [u8]) -> Done {
+// A frame with what is lent to its call, received or only explained.
+fn frame(meter: Meter, line: &[u8], from: Cursor, reply: &mut [u8], is_explained: bool) -> Done {
     let mut guk = [0u8; MOST];
     let a = fields::bytes(line, from, &mut guk);
     let mut ak = [0u8; MOST];
@@ -158,15 +190,35 @@ fn frame(meter: Meter, line: &[u8], from: Cursor, reply: &mut [u8]) -> Done {
     if !end.good {
         return unread(meter, end);
     }
-    receive(
+    let room = room.value as usize;
+    let frame = part(&frame, f.count);
+    let guk = part(&guk, a.count);
+    let ak = part(&ak, b.count);
+    let challenge = part(&challenge, c.count);
+    if is_explained {
+        return explain(meter, frame, guk, ak, challenge, room);
+    }
+    receive(meter, frame, guk, ak, challenge, room, reply)
+}
+
+// What is told of a frame call; the meter stays as it is.
+fn explain(
+    meter: Meter,
+    frame: &[u8],
+    guk: &[u8],
+    ak: &[u8],
+    challenge: &[u8],
+    room: usize,
+) -> Done {
+    let explained = diagnosis::explain(meter, frame, guk, ak, challenge, room);
+    Done {
+        kind: Kind::Explanation,
         meter,
-        part(&frame, f.count),
-        part(&guk, a.count),
-        part(&ak, b.count),
-        part(&challenge, c.count),
-        room.value as usize,
-        reply,
-    )
+        column: 0,
+        refusal: explained.refusal,
+        count: 0,
+        explained,
+    }
 }
 
 // The frame call, with so much of the reply buffer lent.
@@ -181,12 +233,7 @@ pub fn receive(
 ) -> Done {
     let r = p2::receive(meter, frame, guk, ak, challenge, start_of(reply, room));
     let next = r.meter;
-    Done {
-        meter: next,
-        column: 0,
-        refusal: r.refusal,
-        count: r.count,
-    }
+    replied(next, r.refusal, r.count)
 }
 
 // The bytes that were read of a byte string.
@@ -205,9 +252,21 @@ fn take_image(meter: Meter, line: &[u8], from: Cursor) -> Done {
     let status = read.status;
     let n = image::refusal_of(status);
     if n != 0 {
-        return without_reply(n, meter);
+        return replaced(n, meter);
     }
-    without_reply(0, read.meter)
+    replaced(0, read.meter)
+}
+
+// A meter that is the current one from here on, or the one that stays where another is refused.
+fn replaced(refusal: u8, meter: Meter) -> Done {
+    Done {
+        kind: Kind::Meter,
+        meter,
+        column: 0,
+        refusal,
+        count: 0,
+        explained: nothing_told(),
+    }
 }
 
 fn dump(meter: Meter, line: &[u8], from: Cursor, reply: &mut [u8]) -> Done {
@@ -216,12 +275,7 @@ fn dump(meter: Meter, line: &[u8], from: Cursor, reply: &mut [u8]) -> Done {
         return unread(meter, end);
     }
     image_write::write_image(meter.cleared(), start_of(reply, image::SIZE));
-    Done {
-        meter,
-        column: 0,
-        refusal: 0,
-        count: image::SIZE,
-    }
+    replied(meter, 0, image::SIZE)
 }
 
 // The first `n` bytes of the reply buffer, or all where there are fewer.
@@ -235,12 +289,9 @@ fn start_of(reply: &mut [u8], n: usize) -> &mut [u8] {
 
 // The meter as it is, and the column of a wrong cursor.
 fn unread(meter: Meter, wrong: Cursor) -> Done {
-    Done {
-        meter,
-        column: lines::column(wrong.at),
-        refusal: 0,
-        count: 0,
-    }
+    let mut done = without_reply(0, meter);
+    done.column = lines::column(wrong.at);
+    done
 }
 
 fn changed(r: Changed) -> Done {
@@ -250,10 +301,25 @@ fn changed(r: Changed) -> Done {
 
 // A call without a reply.
 fn without_reply(refusal: u8, meter: Meter) -> Done {
+    replied(meter, refusal, 0)
+}
+
+// A call with so many bytes of reply.
+fn replied(meter: Meter, refusal: u8, count: usize) -> Done {
     Done {
+        kind: Kind::Call,
         meter,
         column: 0,
         refusal,
-        count: 0,
+        count,
+        explained: nothing_told(),
+    }
+}
+
+fn nothing_told() -> Explained {
+    Explained {
+        refusal: 0,
+        finding: Finding::Passes,
+        place: Place::Nowhere,
     }
 }

@@ -43,6 +43,12 @@ pub fn put_unread(out: &mut [u8; ROOM], output: Output, column: usize) -> Output
     put(out, b, b'\n')
 }
 
+// An answer that is a text of its own.
+pub fn put_text(out: &mut [u8; ROOM], output: Output, s: &[u8]) -> Output {
+    let a = put_all(out, output, s);
+    put(out, a, b'\n')
+}
+
 // The answer to a call: its number, the reply, and a mark where a byte of the reply buffer after the reply was changed.
 pub fn put_answer(
     out: &mut [u8; ROOM],

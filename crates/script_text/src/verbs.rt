@@ -16,6 +16,7 @@ pub enum Verb {
     Frame,
     Image,
     Dump,
+    Explain,
     Unknown,
 }
 
@@ -28,7 +29,7 @@ pub struct Spoken {
 pub fn verb_of(line: &[u8]) -> Spoken {
     spoken_of(
         line,
-        b"new|registers|value|columns|period|tick|p5|power|frame|image|dump",
+        b"new|registers|value|columns|period|tick|p5|power|frame|image|dump|explain",
     )
 }
 
@@ -38,7 +39,7 @@ fn spoken_of(line: &[u8], words: &[u8]) -> Spoken {
         cursor: wrong(0),
     };
     let mut k: usize = 0;
-    while k < 11 {
+    while k < 12 {
         spoken = tried(spoken, line, text::field(words, k), verb_at(k));
         k += 1;
     }
@@ -59,6 +60,7 @@ fn verb_at(k: usize) -> Verb {
         8 => Verb::Frame,
         9 => Verb::Image,
         10 => Verb::Dump,
+        11 => Verb::Explain,
         _ => Verb::Unknown,
     }
 }

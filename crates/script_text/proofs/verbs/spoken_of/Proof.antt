@@ -5,10 +5,10 @@ use Rattle.script_text.proofs.verbs.spoken_of.Statement.{statement}
 use Rattle.script_text.proofs.verbs.spoken_of.Tie as tie
 
 abbrev Inv-loop : tie.InvT-loop
-Inv-loop line words spoken₀ k₀ spoken k = k ≤ 11
+Inv-loop line words spoken₀ k₀ spoken k = k ≤ 12
 
 abbrev μ-loop : tie.MeasureT-loop
-μ-loop line words spoken₀ k₀ spoken k = 11 - k
+μ-loop line words spoken₀ k₀ spoken k = 12 - k
 
 pub spoken-of-spec : {M : Type 1} → statement M
 spoken-of-spec =

@@ -1,0 +1,5 @@
+pub mod Tests
+pub mod Lines
+pub mod Places
+pub mod Claims
+pub mod Road

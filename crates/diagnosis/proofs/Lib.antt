@@ -1,0 +1,4 @@
+pub mod EnvelopeLaws
+pub mod StateLaws
+pub mod CallLaws
+pub mod Claims

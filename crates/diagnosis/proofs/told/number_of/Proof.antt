@@ -1,0 +1,25 @@
+-- `diagnosis::told::number_of` meets its contract.
+use borrow.Author.Needs.{needs}
+use Rattle.diagnosis.proofs.told.number_of.Statement.{statement}
+use Rattle.diagnosis.proofs.told.number_of.Tie as tie
+
+returns-3 : tie.Need-returns-3
+returns-3 c = rw (c .before .before .test2 .given .1) (c .number-of .ensures)
+
+pub number-of-spec : {M : Type 1} → statement M
+number-of-spec =
+    tie.close
+    (tie.spec
+    (λ c. search needs)
+    (λ c κs. search needs)
+    (λ c. search needs)
+    (λ c. search needs)
+    (λ c κs. search needs)
+    (λ c. search needs)
+    (λ c κs. search needs)
+    (λ c. search needs)
+    (λ c. search needs)
+    (λ c. search needs)
+    returns-3
+    (λ c. search needs)
+    (λ c. search needs))
