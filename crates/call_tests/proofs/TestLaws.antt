@@ -6,6 +6,7 @@ use Prim.Native.Nat.{ℕ}
 use native.Mathlib.Omega.{arith}
 use Rattle.model.specs.State.{Model}
 use Rattle.model.specs.Calls.{Lent}
+use Rattle.hdlc.proofs.TestLaws.{by-test}
 use Rattle.call_tests.specs.declared.CallTest.{CallTest}
 use Rattle.call_tests.specs.declared.Finding.{Finding}
 use Rattle.call_tests.specs.declared.Finding.the-variants.{Fails, Passes}
@@ -18,10 +19,6 @@ passes-never {t} q = let z : _≡_ {A = ℕ} 0 1 = cc in omega arith
 
 same-test : {t u : CallTest} → Fails t ≡ Fails u → t ≡ u
 same-test {t} {u} q = cc
-
-pub by-test : {P : Type 0} (b : Bool) → (b ≡ true → P) → (b ≡ false → P) → P
-by-test true p q = p refl
-by-test false p q = q refl
 
 -- a test in front of a stretch
 pub else-cond : (b : Bool) (t : CallTest) (x y : Finding) → orElse (cond b (Fails t) x) y ≡ cond b (Fails t) (orElse x y)

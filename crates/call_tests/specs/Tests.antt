@@ -166,7 +166,7 @@ malformedIn l a c s GlobalAction = onInside l a c s GlobalAction (λ d counter t
 malformedIn l a c s (DedicatedRequest k) = onInside l a c s (DedicatedRequest k) (λ d counter text. isMalformed (readService k text))
 malformedIn l a c s Unknown = false
 
--- an ACTION that answers the challenge, or should
+-- an ACTION that answers the challenge, or should: CB, which is permitted while pending alone
 abbrev pub onAnswer : Line → Secrets → Client → List ℕ → Tag → (CipherClient → (counter : ℕ) → (text : List ℕ) → Asked → Bool) → Bool
 onAnswer l a c s Aarq g = false
 onAnswer l a c s Rlrq g = false

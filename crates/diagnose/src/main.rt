@@ -59,27 +59,30 @@ fn print_explained(explained: Explained) {
 
 // A line of the input that cannot be read, and the column of its first character with which no readable line goes on.
 fn complain_of_text(line: u64, column: usize) {
-    io::write_all(STDERR_FILENO, b"diagnose: line ");
-    io::print_decimal(STDERR_FILENO, line);
+    name_line(line);
     io::write_all(STDERR_FILENO, b", column ");
     io::print_decimal(STDERR_FILENO, column as u64);
     complain(b" cannot be read")
 }
 
-// A frame with no meter before it.
-fn complain_of_frame(line: u64) {
-    io::write_all(STDERR_FILENO, b"diagnose: line ");
-    io::print_decimal(STDERR_FILENO, line);
-    complain(b", there is no meter before this frame")
-}
-
 // A line whose image is no meter's, and the number by which it is refused.
 fn complain_of_image(line: u64, refusal: u8) {
-    io::write_all(STDERR_FILENO, b"diagnose: line ");
-    io::print_decimal(STDERR_FILENO, line);
+    name_line(line);
     io::write_all(STDERR_FILENO, b", its image is refused by ");
     io::print_decimal(STDERR_FILENO, refusal as u64);
     complain(b"")
+}
+
+// A frame with no meter before it.
+fn complain_of_frame(line: u64) {
+    name_line(line);
+    complain(b", there is no meter before this frame")
+}
+
+// The line of the input that is complained of.
+fn name_line(line: u64) {
+    io::write_all(STDERR_FILENO, b"diagnose: line ");
+    io::print_decimal(STDERR_FILENO, line);
 }
 
 // One line on standard error.

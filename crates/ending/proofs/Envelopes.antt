@@ -26,14 +26,18 @@ use Rattle.protocol.specs.Rulings.{Ruling, says, nothing, envelopeUnopened, out
 use Rattle.protocol.specs.Decide.{admitted, proofIn, provesItself}
 
 -- the part from the start, as a caller lends it
-from-start : (n : ℕ) (s : List ℕ) → take n s ≡ part 0 n s
+pub from-start : (n : ℕ) (s : List ℕ) → take n s ≡ part 0 n s
 from-start n s = let z : n ≡ n - 0 = omega arith in ap (λ (k : ℕ). take k s) z
+
+-- the window of a pair that is the client's
+pub window-of : (c : CipherClient) (l : Line) {pair : Counters} → pair ≡ counters c l → (counter : ℕ) {b : Bool} → inWindow (pair .accepted) counter ≡ b → inWindow (counters c l .accepted) counter ≡ b
+window-of c l ep counter e = ap (λ (x : Counters). inWindow (x .accepted) counter) (sym ep) ∙ e
 
 pub admitted-size : {accepted : ℕ} {o : Opened} {before after : List ℕ} {r : Admission} → AdmittedInto accepted o before after r → {counter size : ℕ} → r ≡ Admitted counter size → size ≤ length after
 admitted-size g q = admitted-of _ g q .0 .1
 
 module _ {k n : Keys} {t u : List ℕ} (tag : ℕ) (s : List ℕ) (ek : k ≡ n) (et : t ≡ u) where
-  same-opening : opened n u tag s ≡ opened k t tag s
+  pub same-opening : opened n u tag s ≡ opened k t tag s
   same-opening = ap₂ (λ (x : Keys) (y : List ℕ). opened x y tag s) (sym ek) (sym et)
 
   module _ {before after : List ℕ} {r : Opening} (g : OpenedInto (opened k t tag s) before after r) where
@@ -44,17 +48,14 @@ module _ {k n : Keys} {t u : List ℕ} (tag : ℕ) (s : List ℕ) (ek : k ≡ n)
     envelope-opens {counter} {size} q = same-opening ∙ opened-text g q .0 ∙ ap (opens counter) (from-start size after)
 
   module _ (c : CipherClient) (l : Line) {pair : Counters} (ep : pair ≡ counters c l) (inside : ℕ → List ℕ → Ruling) {before after : List ℕ} {r : Admission} (g : AdmittedInto (pair .accepted) (opened k t tag s) before after r) where
-    window-of : (counter : ℕ) {b : Bool} → inWindow (pair .accepted) counter ≡ b → inWindow (counters c l .accepted) counter ≡ b
-    window-of counter e = ap (λ (x : Counters). inWindow (x .accepted) counter) (sym ep) ∙ e
-
     pub admits-unopened : r ≡ Unopened → admitted l c (opened n u tag s) inside ≡ says envelopeUnopened nothing l
     admits-unopened q = rw (same-opening ∙ unopened-of _ g q) refl
 
     pub admits-outside : r ≡ OutsideWindow → admitted l c (opened n u tag s) inside ≡ says outsideWindow nothing (associates (Ciphering c) none l)
-    admits-outside q = let w = outside-of _ g q in rw (same-opening ∙ w .opening, window-of (w .counter) (w .window)) refl
+    admits-outside q = let w = outside-of _ g q in rw (same-opening ∙ w .opening, window-of c l ep (w .counter) (w .window)) refl
 
     pub admits-inside : {counter size : ℕ} → r ≡ Admitted counter size → admitted l c (opened n u tag s) inside ≡ inside counter (part 0 size after)
-    admits-inside {counter} {size} q = let w = admitted-of _ g q in rw (same-opening ∙ w .0 .0, window-of counter (w .1)) (ap (inside counter) (from-start size after))
+    admits-inside {counter} {size} q = let w = admitted-of _ g q in rw (same-opening ∙ w .0 .0, window-of c l ep counter (w .1)) (ap (inside counter) (from-start size after))
 
 -- a proof that was tested under the lent keys, made ready
 pub proves-under : (c : CipherClient) (l : Line) (a : Secrets) (counter : ℕ) (text : List ℕ) (q : Asked) {k : Keys} {b : Bool} → k ≡ lentKeys a
