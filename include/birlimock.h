@@ -28,10 +28,10 @@
 extern "C" {
 #endif
 
-/* The version that this header belongs to, three numbers in one: 20000 is 2.0.0. The first grows where a program, a client at the plug
+/* The version that this header belongs to, three numbers in one: 20100 is 2.1.0. The first grows where a program, a client at the plug
  * or a stored state of the version before does not fit any more, the second where a call, an answer or a number comes beside those that
  * stand, the third where no caller can see a difference. birlimock_version() answers that of the library which was linked. */
-#define BIRLIMOCK_VERSION 20000
+#define BIRLIMOCK_VERSION 20100
 
 /* The room for a reply that a frame call asks for: the longest frame. */
 #define BIRLIMOCK_REPLY_ROOM 779
@@ -110,14 +110,15 @@ extern "C" {
 /* end of what is made */
 
 /* Refusals of document 01 (docs/REFUSALS.md has what is sent, and the meter afterwards). Frame calls answer 1 to 13 and test 1,
- * 2, 3 before the frame; 1 to 7 send nothing. Owner's calls test 3 before their own. */
+ * 2, 3 before the frame; 1 to 7 send nothing. A counter's step is how many counters it lies after the last accepted of its client;
+ * 0 comes after 4294967295. Owner's calls test 3 before their own. */
 #define BIRLIMOCK_ROOM_TOO_SHORT 1      /* too little room for a reply */
 #define BIRLIMOCK_WRONG_SECRETS 2       /* a key or the challenge is not whole */
 #define BIRLIMOCK_UNSOUND_STATE 3       /* the meter's state is not sound */
 #define BIRLIMOCK_NOT_A_FRAME 4         /* not a whole frame */
 #define BIRLIMOCK_FRMR_RECEIVED 5       /* the frame itself is a rejection */
 #define BIRLIMOCK_ENVELOPE_NOT_OPENED 6 /* the seal is not right */
-#define BIRLIMOCK_COUNTER_OUTSIDE 7     /* the counter is outside its window */
+#define BIRLIMOCK_COUNTER_OUTSIDE 7     /* the counter's step is not 1 to 180 */
 #define BIRLIMOCK_FRAME_TOO_LONG 8      /* the frame is too long */
 #define BIRLIMOCK_BAD_FRAME 9           /* the frame is bad */
 #define BIRLIMOCK_NO_LINK 10            /* there is no link */

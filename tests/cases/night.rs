@@ -31,7 +31,7 @@ const MEANINGS: [&str; 14] = [
     "silence: not a whole frame",
     "silence: the frame itself is a rejection",
     "silence: the seal is not right",
-    "silence: the counter is outside its window",
+    "silence: the counter's step is not 1 to 180",
     "refused: the frame is too long",
     "refused: the frame is bad",
     "refused: there is no link",

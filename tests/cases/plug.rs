@@ -167,7 +167,7 @@ impl Plug<'_> {
         })
     }
 
-    /// A counter: as given, or so many above the last that the meter accepted.
+    /// A counter: as given, or so many steps on from the last that the meter accepted.
     fn counter(&mut self, key: &str, otherwise: u32) -> Result<u32, String> {
         let Some(given) = self.words.option(key) else { return Ok(otherwise) };
         match given.strip_prefix('+') {

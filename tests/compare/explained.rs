@@ -1,10 +1,11 @@
 //! Explanations in bulk. The library does not explain, so frame calls of a run become lines of the script program, and its
 //! answers are held to the second meter's.
 
+use crate::counters;
 use cases::hexadecimal::hex;
 use cases::script::digits;
 use reference::explanation::{Explanation, NONE, TESTS};
-use reference::library::Call;
+use reference::library::{Call, State};
 use std::collections::BTreeMap;
 use std::fs::{self, File};
 use std::path::Path;
@@ -14,13 +15,14 @@ use std::process::Command;
 const TAKEN: &str = "0 -";
 
 /// Lines of the script program that it was not yet asked, with the answers that are due, and the image that it holds after
-/// them; and how often each test was named.
+/// them; how often each test was named; and the counters around the overflow.
 #[derive(Default)]
 pub struct Explained {
     lines: Vec<String>,
     due: Vec<String>,
     held: Vec<u8>,
     names: BTreeMap<&'static str, usize>,
+    counters: counters::Met,
 }
 
 impl Explained {
@@ -41,6 +43,9 @@ impl Explained {
         self.lines.push(format!("explain {guk} {ak} {challenge} {room} {frame}"));
         self.due.push(explanation.to_string());
         *self.names.entry(explanation.name).or_default() += 1;
+        if let Some(meter) = State::of(image).meter() {
+            self.counters.add(meter, call, explanation);
+        }
     }
 
     /// Has the program answer the lines, which stay in this folder with its answers; an error tells of the first difference.
@@ -57,7 +62,8 @@ impl Explained {
         if let Some(answer) = answers.next() {
             return Err(format!("DIFFERENCE: {program} answers more than it was asked: {answer}"));
         }
-        *self = Explained { names: std::mem::take(&mut self.names), ..Explained::default() };
+        let (names, counters) = (std::mem::take(&mut self.names), std::mem::take(&mut self.counters));
+        *self = Explained { names, counters, ..Explained::default() };
         Ok(())
     }
 
@@ -76,6 +82,7 @@ impl Explained {
         for (number, name) in all_names() {
             println!("{:>9}  {number:>3}  {name}", self.named(name));
         }
+        self.counters.print();
         println!("{:>9}  frames explained by the script program", self.frames());
     }
 
@@ -83,10 +90,12 @@ impl Explained {
         self.names.get(name).copied().unwrap_or(0)
     }
 
-    /// The names that never came up, but for that of the one test which no state of a meter fails first.
+    /// The names that never came up, but for that of the one test which no state of a meter fails first, and counters around
+    /// the overflow that never came.
     pub fn missing(&self) -> Vec<String> {
         let is_missing = |&(_, name): &(u8, &str)| self.named(name) == 0 && name != NEVER_FIRST;
-        all_names().filter(is_missing).map(|(_, name)| name.into()).collect()
+        let names = all_names().filter(is_missing).map(|(_, name)| name.into());
+        names.chain(self.counters.missing()).collect()
     }
 }
 

@@ -2,12 +2,13 @@
 //! differs.
 //!
 //! compare CALLS SEED FOLDER makes so many calls at random; the folder gets replies for other programs to read, and what can
-//! be answered and never was, a number or what a read by date comes to, is a difference, too. compare --replay INPUT OUTPUT
-//! goes through the script program's cases. compare --explain FRAMES SEED PROGRAM FOLDER has the script program explain so
-//! many frames at random.
+//! be answered and never was, a number or what a read by date comes to, is a difference, too, and so are counters around the
+//! overflow that never came. compare --replay INPUT OUTPUT goes through the script program's cases. compare --explain FRAMES
+//! SEED PROGRAM FOLDER has the script program explain so many frames at random.
 
 mod bench;
 mod bits;
+mod counters;
 mod damage;
 mod explained;
 mod library;

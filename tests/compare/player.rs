@@ -5,7 +5,7 @@ use crate::damage::{changed, stray, Parts};
 use crate::opening;
 use crate::random::Random;
 use crate::ranges::range;
-use crate::states::{counter, object};
+use crate::states::{counter, is_near_end, object};
 use crate::values::{entries, value};
 use reference::acse::RELEASE_REQUEST;
 use reference::aes::Block;
@@ -154,17 +154,19 @@ impl Player<'_> {
         opening::ciphered(self.random, &sender)
     }
 
-    /// A counter for the next envelope, most times within the window.
+    /// A counter for the next envelope, most times within the window; near an end more often about its edges.
     fn next_counter(&mut self) -> u32 {
         let any = counter(self.random);
         let small = self.random.between(1, 4) as u32;
         let within = self.random.between(1, 180) as u32;
         let last = self.meter.han.accepted;
+        let (before, beyond) = (last.wrapping_sub(1), last.wrapping_add(181));
         match self.random.below(60) {
             0 => any,
-            1 => self.random.pick(&[last, last.wrapping_sub(1), last.wrapping_add(181), 0, u32::MAX]),
+            1 => self.random.pick(&[last, before, beyond, 0, u32::MAX]),
             2..=4 => last.wrapping_add(180),
             5..=8 => last.wrapping_add(within),
+            9..=20 if is_near_end(last) => self.random.pick(&[last, before, before, before, beyond]),
             _ => last.wrapping_add(small),
         }
     }
@@ -242,7 +244,7 @@ impl Player<'_> {
         }
     }
 
-    /// The answer to the meter's challenge; a third of them wrong in one thing.
+    /// The answer to the meter's challenge; a third of them wrong in one thing, near an end half of them in a counter, too.
     fn challenge_answer(&mut self) -> Vec<u8> {
         let key = self.guk;
         if self.random.percent(4) {
@@ -254,9 +256,9 @@ impl Player<'_> {
             true => last.wrapping_add(step),
             false => self.next_counter(),
         };
-        let inner = match self.random.percent(90) {
+        let inner = match self.random.percent(if is_near_end(last) { 50 } else { 90 }) {
             true => last.wrapping_add(self.random.between(1, 1.max(step as usize - 1)) as u32),
-            false => self.random.pick(&[last, last.wrapping_add(1), counter, counter.wrapping_sub(1), 0, u32::MAX]),
+            false => self.edge(last, counter),
         };
         let parameter = self.proof_parameter(inner);
         let method = if self.random.percent(96) { 1 } else { self.random.pick(&[0, 2]) };
@@ -264,6 +266,12 @@ impl Player<'_> {
         let class = if self.random.percent(96) { 15 } else { self.random.pick(&[0, 1, 255]) };
         let head = [&[ACTION, 0x01, self.random.byte(), 0x00, class], &name[..], &[method]].concat();
         self.sealed(0xCB, key, counter, &[head, parameter].concat())
+    }
+
+    /// A proof's counter at the last accepted, at its envelope's or at the overflow, or one beside.
+    fn edge(&mut self, last: u32, envelope: u32) -> u32 {
+        let (before, beyond) = (last.wrapping_sub(1), envelope.wrapping_add(1));
+        self.random.pick(&[before, before, last, envelope, envelope.wrapping_sub(1), beyond, beyond, 0, u32::MAX])
     }
 
     fn proof_parameter(&mut self, inner: u32) -> Vec<u8> {

@@ -80,6 +80,10 @@ impl Run {
                 let meter = states::readable(random);
                 (states::image(random, &meter), 40)
             }
+            11..=14 => {
+                let meter = states::at_overflow(random);
+                (states::image(random, &meter), 8)
+            }
             _ => {
                 let meter = states::sound(random);
                 (states::image(random, &meter), random.pick(&[10, 10, 30, 30, 60, 60, 200]))
@@ -99,7 +103,7 @@ impl Run {
             let compared = scenario.bench.call(&mut self.random, &call);
             let agreement =
                 compared.map_err(|told| format!("{told}\nnumber of the call: {}", self.statistics.calls + 1))?;
-            self.statistics.add(&call, &before, &agreement.outcome);
+            self.statistics.add(&call, &before, &agreement.outcome, agreement.explanation);
             if let Some(meter) = before.meter() {
                 self.samples.add(&call, meter, &agreement.outcome, &agreement.room);
             }

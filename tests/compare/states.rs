@@ -141,11 +141,23 @@ pub fn wrong_period(random: &mut Random) -> u32 {
     ])
 }
 
-/// A counter, often near one of the ends.
+/// A counter, most times near one of the ends.
 pub fn counter(random: &mut Random) -> u32 {
     let near = random.below(400) as u32;
     let any = random_value(random);
-    random.pick(&[near, near, u32::MAX - near, u32::MAX - near % 4, any])
+    let close = beside_overflow(random);
+    random.pick(&[near, u32::MAX - near, close, close, any])
+}
+
+/// A counter from which the overflow is within the window, or one step back.
+fn beside_overflow(random: &mut Random) -> u32 {
+    let near = random.below(180) as u32;
+    random.pick(&[0, u32::MAX, u32::MAX - near % 4, u32::MAX - near])
+}
+
+/// Whether a window's steps from this counter, forward or back, meet an end.
+pub fn is_near_end(counter: u32) -> bool {
+    !(180..=u32::MAX - 180).contains(&counter)
 }
 
 fn services(random: &mut Random, offered: [u8; 3]) -> [u8; 3] {
@@ -237,6 +249,17 @@ pub fn readable(random: &mut Random) -> Meter {
     meter.rows = rows(random, meter.period, meter.record_number, column_count, row_count);
     meter.han.linked = true;
     meter.han.association = Ciphered::Associated { agreed: OFFERED_CIPHERED, key: random.field() };
+    meter
+}
+
+/// A sound meter in which H is pending or associated, beside the overflow.
+pub fn at_overflow(random: &mut Random) -> Meter {
+    let mut meter = readable(random);
+    meter.han.accepted = beside_overflow(random);
+    if random.percent(70) {
+        let (key, client_challenge, meter_challenge) = (random.field(), random.field(), random.field());
+        meter.han.association = Ciphered::Pending { agreed: OFFERED_CIPHERED, key, client_challenge, meter_challenge };
+    }
     meter
 }
 

@@ -1,6 +1,9 @@
-//! What a run met: each number, each event, deep states, rows by date, and unsound states by clause.
+//! What a run met: each number, each event, deep states, rows by date, counters around the overflow, and unsound states by
+//! clause.
 
+use crate::counters;
 use reference::clock::moment;
+use reference::explanation::Explanation;
 use reference::library::{Call, State};
 use reference::meter::{Ciphered, Meter, MOST_ROWS};
 use reference::receive::{Outcome, BY_DATE};
@@ -23,6 +26,7 @@ pub struct Statistics {
     frames_with_all_rows: usize,
     frames_near_counter_ends: usize,
     by_date_where: BTreeMap<&'static str, usize>,
+    counters: counters::Met,
 }
 
 /// How the clocks of a meter's rows can stand to each other, from one row to the next newer one.
@@ -39,8 +43,8 @@ fn orders(meter: &Meter) -> impl Iterator<Item = &'static str> {
 }
 
 impl Statistics {
-    /// Counts a call by the state before it and what it came to.
-    pub fn add(&mut self, call: &Call, before: &State, outcome: &Outcome) {
+    /// Counts a call by the state before it and what it came to; a frame call has an explanation.
+    pub fn add(&mut self, call: &Call, before: &State, outcome: &Outcome, explanation: Option<Explanation>) {
         self.calls += 1;
         *self.numbers.entry(outcome.number).or_default() += 1;
         *self.events.entry((outcome.number, outcome.event)).or_default() += 1;
@@ -48,9 +52,8 @@ impl Statistics {
         for clause in meter.faults() {
             *self.unsound.entry(clause).or_default() += 1;
         }
-        if !matches!(call, Call::Receive { .. }) {
-            return;
-        }
+        let Some(explanation) = explanation else { return };
+        self.counters.add(meter, call, explanation);
         let near_end = |counter: u32| !(200..=u32::MAX - 200).contains(&counter);
         self.frames_while_associated += usize::from(matches!(meter.han.association, Ciphered::Associated { .. }));
         self.frames_while_pending += usize::from(matches!(meter.han.association, Ciphered::Pending { .. }));
@@ -72,6 +75,7 @@ impl Statistics {
         println!("{:>9}  frame calls while H was pending", self.frames_while_pending);
         println!("{:>9}  frame calls with fifteen rows", self.frames_with_all_rows);
         println!("{:>9}  frame calls with a counter within 200 of an end", self.frames_near_counter_ends);
+        self.counters.print();
         for (order, count) in &self.by_date_where {
             println!("{count:>9}  reads of rows by date granted, with {order}");
         }
@@ -88,7 +92,8 @@ impl Statistics {
         self.events.keys().any(|&(_, met)| met == event)
     }
 
-    /// What never occurred though a run should meet it: numbers, clauses of unsoundness, and what rows by date come to.
+    /// What never occurred though a run should meet it: numbers, clauses of unsoundness, what rows by date come to, and counters
+    /// around the overflow.
     pub fn missing(&self) -> Vec<String> {
         let numbers = all_numbers().filter(|number| !self.numbers.contains_key(number));
         let clauses = CLAUSES.into_iter().filter(|&clause| self.unsound_by(clause) == 0);
@@ -97,6 +102,6 @@ impl Statistics {
         let numbers = numbers.map(|number| format!("number {number}"));
         let clauses = clauses.map(|clause| format!("a state unsound by {clause:?}"));
         let orders = orders.map(|order| format!("rows by date with {order}"));
-        numbers.chain(clauses).chain(by_date).chain(orders).collect()
+        numbers.chain(clauses).chain(by_date).chain(orders).chain(self.counters.missing()).collect()
     }
 }

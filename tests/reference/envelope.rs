@@ -11,6 +11,14 @@ const SECURITY_CONTROL: u8 = 0x30;
 const PROOF_CONTROL: u8 = 0x10;
 const TAG_LENGTH: usize = 12;
 
+/// How many counters there are: after 4294967295 comes 0.
+const COUNTERS: u64 = 1 << 32;
+
+/// The step from the last accepted to a counter, modulo 2^32 (change request Q-3): 0 where it is the last accepted itself.
+pub fn step(last: u32, counter: u32) -> u64 {
+    (u64::from(counter) + COUNTERS - u64::from(last)) % COUNTERS
+}
+
 /// Whose envelopes: the sender's title, the key and the authentication key.
 pub struct Sender {
     pub title: Title,

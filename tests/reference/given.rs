@@ -180,6 +180,13 @@ impl<'a> Given<'a> {
         self.meter.is_proof(&action, (self.meter.han.accepted, envelope.counter), meter_challenge, &self.keys())
     }
 
+    /// The inner counter of a proof that is right but for, perhaps, its steps.
+    pub fn proof_counter(&self) -> Option<u32> {
+        let Ciphered::Pending { meter_challenge, .. } = &self.meter.han.association else { return None };
+        let action = self.action().filter(|_| self.is_to_the_challenge())?;
+        self.meter.proof_counter(&action, meter_challenge, &self.keys())
+    }
+
     /// What a GET, or an ACTION that answers no challenge, is for.
     pub fn target(&self) -> Option<Target> {
         let action = || self.action().filter(|_| self.tag() == Some(0xD3)).map(|action| action.target);

@@ -3,7 +3,7 @@
 
 use crate::acse::{self, Services, RELEASE_REQUEST, RELEASE_RESPONSE};
 use crate::aes::Block;
-use crate::envelope::{Challenge, Sender};
+use crate::envelope::{step, Challenge, Sender};
 use crate::frame::{self, Head, Received};
 use crate::meter::{Ciphered, Meter, Plain, CHALLENGE};
 use crate::objects;
@@ -263,10 +263,9 @@ impl Meter {
         Ok(plain)
     }
 
-    /// Greater than the last accepted by at most 180.
+    /// The step from the last accepted is 1 to 180.
     pub fn is_in_window(&self, counter: u32) -> bool {
-        let last = u64::from(self.han.accepted);
-        (last + 1..=last + WINDOW).contains(&u64::from(counter))
+        (1..=WINDOW).contains(&step(self.han.accepted, counter))
     }
 
     fn sealed_get(&mut self, apdu: &[u8], keys: &Keys, key: Block, agreed: Services) -> Outcome {
@@ -333,13 +332,19 @@ impl Meter {
         self.sealed_answer(0xCF, keys, keys.guk, answer, (0, "proof right"))
     }
 
-    /// The proof over this challenge, its counter between the last accepted before its envelope and that of the envelope.
+    /// The proof over this challenge, its step 1 or more and below its envelope's. Both steps are taken from the last accepted
+    /// before the envelope; the bounds are that and the envelope's counter.
     pub fn is_proof(&self, action: &Action, bounds: (u32, u32), challenge: &Challenge, keys: &Keys) -> bool {
-        let Some(Value::OctetString(given)) = &action.parameter else { return false };
-        let Some(counter) = given.get(1..5) else { return false };
-        let inner = u32::from_be_bytes([counter[0], counter[1], counter[2], counter[3]]);
-        let between = bounds.0 < inner && inner < bounds.1;
-        between && *given == self.han_as_sender(keys, keys.guk).proof(inner, challenge)
+        let (last, envelope) = bounds;
+        let inner = self.proof_counter(action, challenge, keys);
+        inner.is_some_and(|inner| (1..step(last, envelope)).contains(&step(last, inner)))
+    }
+
+    /// The inner counter of a proof over this challenge that has its shape and its GMAC.
+    pub fn proof_counter(&self, action: &Action, challenge: &Challenge, keys: &Keys) -> Option<u32> {
+        let Some(Value::OctetString(given)) = &action.parameter else { return None };
+        let inner = u32::from_be_bytes(given.get(1..5)?.try_into().ok()?);
+        (*given == self.han_as_sender(keys, keys.guk).proof(inner, challenge)).then_some(inner)
     }
 }
 

@@ -1,10 +1,10 @@
 //! The fourteen marked examples of document 01 (the first stands with the ciphers), and refusals around them.
 
+use crate::counters::passes;
 use crate::{array, hex};
 use reference::clock::{is_period, is_valid};
-use reference::envelope::Sender;
 use reference::frame::{self, Head};
-use reference::meter::{Ciphered, Meter, Row};
+use reference::meter::{Meter, Row};
 use reference::receive::{Lent, Outcome};
 use reference::value::Value;
 
@@ -49,25 +49,9 @@ fn rejected_frames() {
     assert_eq!(answered(0x27, 0x97, &[0; 769]), (5, vec![]));
 }
 
-/// Whether a request with this counter passes where 200 was the last accepted.
-fn passes(counter: u32) -> bool {
-    let mut meter = new_meter();
-    let key = [0x33; 16];
-    meter.han.linked = true;
-    meter.han.association = Ciphered::Associated { agreed: [0, 0, 0x15], key };
-    meter.han.accepted = 200;
-    let sender = Sender { title: meter.han.title, key, authentication: AUTHENTICATION };
-    let apdu = sender.close(0xD0, counter, &hex("C001C100080000010000FF0200"));
-    let head = Head { destination: 0x03, source: 0x27, control: 0x13 };
-    let outcome = receive(&mut meter, &frame::write(head, &[&[0xE6, 0xE6, 0x00], &apdu[..]].concat()));
-    let dropped = meter.han.association == Ciphered::Absent;
-    assert_eq!((outcome.number == 7, outcome.reply.is_empty()), (dropped, dropped));
-    outcome.number == 0 && meter.han.accepted == counter
-}
-
 #[test]
 fn window_of_180() {
-    assert_eq!([201, 380, 200, 381].map(passes), [true, true, false, false]);
+    assert_eq!([201, 380, 200, 381].map(|counter| passes(200, counter)), [true, true, false, false]);
 }
 
 /// The record numbers that a selection of a profile with fifteen rows gives, or its code.

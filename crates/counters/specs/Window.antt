@@ -1,21 +1,26 @@
--- Which counters of a client are accepted (document 01, "The envelope and its counters"): the window of an envelope's, the
--- test of a proof's inner one, and the last accepted set. Counters are compared as plain numbers, with no step over the top.
+-- Which counters of a client are accepted (document 01, "The envelope and its counters", with 02's Q-3): the step from the last
+-- accepted to a counter, the window of an envelope's, the test of a proof's inner one, and the last accepted set. What is claimed of
+-- the window stands in Steps.
 use mathlib.Core.Bool.{Bool, _&&_}
-use Prim.Native.Nat.{ℕ, _+_}
+use Prim.Native.Nat.{ℕ, _+_, _-_, _%_, _^_}
 use lib.Dec.{leb, ltb}
 use Rattle.model.specs.declared.Counters.{Counters}
 
--- how far a counter may be ahead of the last accepted
+-- "The step from the last accepted to the received counter is taken modulo 2^32"
+unfoldable pub stepTo : (accepted counter : ℕ) → ℕ
+stepTo accepted counter = (counter + (2 ^ 32 - accepted % 2 ^ 32)) % 2 ^ 32
+
+-- the greatest step
 abbrev pub windowSize : ℕ
 windowSize = 180
 
--- "greater than the last accepted by at most 180"; a counter outside is refusal 7
+-- "and must be 1 to 180"; a counter outside is refusal 7
 unfoldable pub inWindow : (accepted counter : ℕ) → Bool
-inWindow accepted counter = ltb accepted counter && leb counter (accepted + windowSize)
+inWindow accepted counter = leb 1 (stepTo accepted counter) && leb (stepTo accepted counter) windowSize
 
--- "the inner, which must be above the last accepted and below the envelope's"; else the proof is wrong
+-- "A proof's inner step must be 1 or more and below its envelope's"; else the proof is wrong
 unfoldable pub innerAllowed : (accepted outer inner : ℕ) → Bool
-innerAllowed accepted outer inner = ltb accepted inner && ltb inner outer
+innerAllowed accepted outer inner = leb 1 (stepTo accepted inner) && ltb (stepTo accepted inner) (stepTo accepted outer)
 
 -- "becomes the last accepted"
 unfoldable pub accepting : Counters → ℕ → Counters

@@ -1,9 +1,9 @@
 // The counter pair of a ciphering client: the meter's own counter advanced where it stands, and the tests of the counters that
-// the client sends. specs/Advance and specs/Window say what each means. Nothing here has a `requires`.
+// the client sends. specs/Advance and specs/Window say what each means, specs/Steps what is claimed of the window. Nothing here has a `requires`.
 use model::Counters;
 ghost use mathlib.Core.Path.{_≡_};
 ghost use Rattle.counters.specs.Advance.{taken};
-ghost use Rattle.counters.specs.Window.{accepting, innerAllowed, inWindow};
+ghost use Rattle.counters.specs.Window.{accepting, innerAllowed, inWindow, stepTo};
 
 // The pair after a number was taken, and that number, the one to use.
 pub struct Taken {
@@ -46,26 +46,34 @@ fn advanced(c: Counters) -> Taken
     }
 }
 
+// The step from the last accepted to a counter, modulo 2^32.
+fn step_to(accepted: u32, counter: u32) -> u32
+    ensures { λ r. ⌜ r ≡ stepTo accepted counter ⌝ }
+{
+    std::num::wrapping_sub_u32(counter, accepted)
+}
+
 // Whether the counter of an envelope that opened lies in its window.
 pub fn is_in_window(pair: Counters, counter: u32) -> bool
     ensures { λ r. ⌜ r ≡ inWindow (pair .accepted) counter ⌝ }
 {
-    let accepted = pair.accepted;
-    if counter <= accepted {
+    let step = step_to(pair.accepted, counter);
+    if step < 1 {
         return false;
     }
-    (counter as u64) <= (accepted as u64) + 180
+    step <= 180
 }
 
-// Whether the inner counter of a proof lies between the last accepted and its envelope's.
+// Whether the inner counter of a proof lies after the last accepted, by fewer steps than its envelope's.
 pub fn is_inner_allowed(pair: Counters, outer: u32, inner: u32) -> bool
     ensures { λ r. ⌜ r ≡ innerAllowed (pair .accepted) outer inner ⌝ }
 {
-    let accepted = pair.accepted;
-    if inner <= accepted {
+    let near = step_to(pair.accepted, inner);
+    if near < 1 {
         return false;
     }
-    inner < outer
+    let far = step_to(pair.accepted, outer);
+    near < far
 }
 
 // The pair with a counter as the last accepted.

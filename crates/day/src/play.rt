@@ -239,10 +239,10 @@ pub fn stranger(s: Scene) -> Scene {
         >\n\
         >5. A stranger without keys, who has recorded every frame of the home display\n\
         >\n\
-        >   Within an association each sealed request has a counter, which has to be above the last one accepted, by\n\
-        >   180 at most; else the meter is silent and the association ends. The request for an association is free of\n\
-        >   this: after it the display has still to answer the challenge. Each of the two tables starts from the meter\n\
-        >   as the home display had left it at that point.\n\
+        >   Within an association each sealed request has a counter, which has to be 1 to 180 steps on from the last\n\
+        >   one accepted, where 0 follows 4294967295; else the meter is silent and the association ends. The request\n\
+        >   for an association is free of this: after it the display has still to answer the challenge. Each of the\n\
+        >   two tables starts from the meter as the home display had left it at that point.\n\
         >\n\
         >   While the home display is still associated:\n\
         >\n\

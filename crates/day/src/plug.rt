@@ -144,7 +144,7 @@ fn print_answer(l: &[u8], number: u8, alike: bool) {
         \x20 4  silence: not a whole frame                    |\
         \x20 5  silence: the frame itself is a rejection      |\
         \x20 6  silence: the seal is not right                |\
-        \x20 7  silence: the counter is outside its window    |\
+        \x20 7  silence: the counter's step is not 1 to 180   |\
         \x20 8  refused: the frame is too long                |\
         \x20 9  refused: the frame is bad                     |\
         \x2010  refused: there is no link                     |\

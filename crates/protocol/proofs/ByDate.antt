@@ -6,7 +6,7 @@ use mathlib.Core.List.{List, [], _∷_, flatMap}
 use Prim.Native.Nat.{ℕ, zero, suc, _≤_}
 use native.Mathlib.Omega.{arith}
 use lib.Dec.{lit<, lit≤}
-use lib.ListN.{length, replicate}
+use lib.ListN.{length}
 use borrow.Author.Tests.{le-leb}
 use Rattle.wire.specs.Numbers.{lengthField}
 use Rattle.wire.specs.Reading.{sameBytes, skipped, expected, filled, numberAt, lengthAt}
@@ -14,12 +14,12 @@ use Rattle.axdr.specs.Values.{greatestDepth, layoutOf, elementsEnd, valueWithin
 use Rattle.model.specs.declared.Client.the-variants.{Ciphering}
 use Rattle.model.specs.declared.CipherClient.the-variants.{Han}
 use Rattle.model.specs.declared.Clock.{Clock}
-use Rattle.model.specs.Limits.{longestSent, longestReceived, replyRoom, greatestApdu, envelopeLength, dataRoom, maxRows, maxRegisters, maxColumns}
+use Rattle.model.specs.Limits.{longestSent, longestReceived, greatestApdu, envelopeLength, dataRoom, maxRows, maxRegisters, maxColumns}
 use Rattle.model.specs.Clocks.{februaryDays, daysIn, realDate, realTime, fixedBytes, validClock, daysOfMonths, daysOfYears, dayNumber, moment, later, inRange}
 use Rattle.model.specs.Periods.{periods}
 use Rattle.model.specs.Services.{within}
 use Rattle.model.specs.Selecting.{selected, rangeSelector, rangeDescriptor, goodRange}
-use Rattle.model.specs.State.{Entry, Body, Model, withBody, withStore, withRows, newClock, newMeter}
+use Rattle.model.specs.State.{Entry, Body, Model, withBody, withStore, withRows, newClock, newMeter, noCounters}
 use Rattle.model.specs.Soundness.{acceptedRegisters, acceptedColumns, sound}
 use Rattle.model.specs.Objects.{Turn, granted, rowData, rowsData, rowsWithin, fitting, getAnswer}
 use Rattle.model.specs.Calls.{Lent}
@@ -31,17 +31,15 @@ use Rattle.cosem.specs.declared.Wanted.the-variants.{ReadSelected}
 use Rattle.cosem.specs.declared.Asked.{Asked}
 use Rattle.cosem.specs.declared.Reading.the-variants.{Asks}
 use Rattle.cosem.specs.declared.ServiceKind.the-variants.{Get}
-use Rattle.cosem.specs.Tags.{tagOf}
 use Rattle.cosem.specs.Requests.{optionalPart, lastValue, readGet, readService, nameIn, requested}
-use Rattle.counters.specs.Window.{inWindow}
-use Rattle.envelope.specs.Layout.{sealedEnvelope}
-use Rattle.protocol.specs.Clients.{selectiveIn, dedicatedKeys}
+use Rattle.protocol.specs.Clients.{selectiveIn}
 use Rattle.protocol.specs.Decide.{accepted, advanced}
-use Rattle.protocol.specs.Outcomes.{toH, enclosedGet}
-use Rattle.protocol.specs.Lazy.{requestFrame, Asking}
+use Rattle.protocol.specs.Outcomes.{toH}
+use Rattle.protocol.specs.Lazy.{Asking}
 use Rattle.protocol.specs.ByDate.{getRange, RowsReadByDate, BothReadByDate, ByDateHappens}
 use Rattle.protocol.proofs.Turns.{read-fits}
-use Rattle.protocol.proofs.SecondRow.{next-counter, answer-opens, someLine, someMeter}
+use Rattle.protocol.proofs.Enclosed.{next-counter, someLine, someMeter, someLent, some-sends}
+use Rattle.protocol.proofs.SecondRow.{answer-opens}
 
 -- The request.
 
@@ -108,7 +106,7 @@ abbrev datedRow : ℕ → Entry
 datedRow n = record { number = n; clock = newClock; cells = [] }
 
 abbrev datedMeter : Model
-datedMeter = withBody (withStore (withRows (datedRow 2 ∷ datedRow 1 ∷ []) (someMeter .body .store)) (someMeter .body)) someMeter
+datedMeter = withBody (withStore (withRows (datedRow 2 ∷ datedRow 1 ∷ []) (someMeter noCounters .body .store)) (someMeter noCounters .body)) (someMeter noCounters)
 
 -- an hour before it, and an hour after it
 abbrev hourBefore : Clock
@@ -118,14 +116,7 @@ abbrev hourAfter : Clock
 hourAfter = record { bytes = 0x07 ∷ 0xE1 ∷ 1 ∷ 1 ∷ 0xFF ∷ 1 ∷ 0 ∷ 0 ∷ 0xFF ∷ 0x80 ∷ 0x00 ∷ 0x00 ∷ [] }
 
 abbrev datedLent : Lent
-datedLent =
-    record {
-      room = replyRoom longestSent;
-      guk = replicate 16 0;
-      ak = replicate 16 0;
-      challenge = replicate 8 0;
-      received = requestFrame (Ciphering Han) (sealedEnvelope (dedicatedKeys (replicate 16 0) Han someLine) (replicate 8 0) 0xD0 1 (getRange 0 hourBefore hourAfter));
-    }
+datedLent = someLent 1 (getRange 0 hourBefore hourAfter)
 
 dated-sound : sound datedMeter ≡ true
 unfolding sound newMeter acceptedRegisters acceptedColumns validClock realDate realTime fixedBytes daysIn februaryDays periods maxRows maxRegisters maxColumns within
@@ -139,23 +130,19 @@ dated-inside : inRange hourBefore hourAfter newClock ≡ true
 unfolding inRange later moment dayNumber daysOfYears daysOfMonths daysIn februaryDays
 dated-inside = refl
 
-dated-asks : Asking Han datedLent someLine Get 1 (getRange 0 hourBefore hourAfter)
-unfolding getRange rangeDescriptor tagOf within inWindow envelopeLength lengthField greatestApdu longestReceived
+dated-asks : Asking Han datedLent (someLine noCounters) Get 1 (getRange 0 hourBefore hourAfter)
+unfolding getRange rangeDescriptor envelopeLength lengthField greatestApdu longestReceived
 dated-asks =
     record {
-      enough = record { room = omega arith; guk = refl; ak = refl; challenge = refl };
-      may = enclosedGet refl;
-      window = refl;
-      small = lit< tt;
-      short = lit≤ tt;
-      received = refl;
+      sends = some-sends noCounters 1 (getRange 0 hourBefore hourAfter) (lit< tt) (lit≤ tt);
+      window = record { steps = 1; least = lit≤ tt; most = lit≤ tt; counts = refl };
     }
 
 dated-fits : length (rowsData (datedRow 2 ∷ datedRow 1 ∷ [])) ≤ dataRoom longestSent
 unfolding rowsData rowData flatMap lengthField
 dated-fits = rw data-room (lit≤ tt)
 
-dated-agreed : selectiveIn (Ciphering Han) someLine ≡ true
+dated-agreed : selectiveIn (Ciphering Han) (someLine noCounters) ≡ true
 unfolding within
 dated-agreed = refl
 

@@ -1,14 +1,14 @@
--- A client that ciphers is let in: a link-up, an AARQ with its envelope and the answered challenge are accepted in turn. `CipheringLetIn` of specs/Lazy,
--- proved.
+-- A client that ciphers is let in: a link-up, an AARQ with its envelope and the answered challenge are accepted in turn. And by a proof whose counter is not
+-- allowed it is not. `CipheringLetIn` and `WrongStepsDenied` of specs/Lazy, proved.
 use mathlib.Core.Path.{_≡_, refl, sym, ap, _∙_}
-use mathlib.Core.Bool.{true, _&&_}
+use mathlib.Core.Bool.{Bool, true, false, cond, _&&_}
 use mathlib.Core.List.{List, [], _∷_, _++_, append-assoc, append-nil}
 use Prim.Native.Nat.{ℕ, _+_, _^_, _≤_, _<_}
 use native.Mathlib.Omega.{arith}
 use lib.Dec.{lit≤}
 use lib.ListN.{length, take, drop, getD, length-append, length-drop}
 use lib.Seq.{take-all}
-use borrow.Author.Tests.{lt-ltb, le-leb, eq-eqb}
+use borrow.Author.Tests.{eq-eqb}
 use Rattle.wire.specs.Numbers.{numberHigh, lengthField}
 use Rattle.wire.specs.Reading.{sameBytes, expected, lengthAt, numberAt}
 use Rattle.wire.specs.declared.End.the-variants.{At}
@@ -21,9 +21,9 @@ use Rattle.model.specs.declared.CipherClient.the-variants.{Han}
 use Rattle.model.specs.declared.Counters.{Counters}
 use Rattle.model.specs.Limits.{longestSent, longestReceived, leastSize, envelopeLength, greatestApdu}
 use Rattle.model.specs.Services.{offered, common}
-use Rattle.model.specs.State.{Association, pending, associated, CipheringPeer, Line, Model, withLine}
-use Rattle.model.specs.Soundness.{sound}
-use Rattle.model.specs.Objects.{challengeOf}
+use Rattle.model.specs.State.{Association, none as unassociated, pending, associated, CipheringPeer, Line, Model, withLine}
+use Rattle.model.specs.Soundness.{isNone, sound}
+use Rattle.model.specs.Objects.{challengeOf, denied, actionAnswer}
 use Rattle.model.specs.Calls.{Lent, frame as frameCall, Outcome, decided}
 use Rattle.hdlc.specs.declared.Head.{Head}
 use Rattle.hdlc.specs.Replies.{apduFrame}
@@ -44,7 +44,9 @@ use Rattle.acse.specs.Aare.{cipheredAareHead}
 use Rattle.acse.proofs.LaidLaws.{written}
 use Rattle.acse.proofs.AarqLaws.{ciphered-accepted, challenge-there, envelope-there, keyed-accepted, key-there, keyed-services-there}
 use Rattle.counters.specs.Advance.{nextCounter, taken}
-use Rattle.counters.specs.Window.{windowSize, inWindow, innerAllowed, accepting}
+use Rattle.counters.specs.Window.{inWindow, innerAllowed, accepting}
+use Rattle.counters.specs.Steps.{StepsBetween}
+use Rattle.counters.proofs.StepLaws.{window-by-steps, inner-by-steps}
 use Rattle.material.specs.Material.{Keys}
 use Rattle.envelope.specs.Layout.{sealedEnvelope}
 use Rattle.envelope.specs.Opening.{longestApdu}
@@ -56,13 +58,13 @@ use Rattle.envelope.proofs.RoundTrip.{opens-closed}
 use Rattle.protocol.specs.declared.Secrets.{Secrets}
 use Rattle.protocol.specs.Clients.{ciphering, linked, withAssociation, associates, counters, withCounters, held, agreedIn, keyIn, clientChallenge, lentKeys}
 use Rattle.protocol.specs.Rulings.{none, plain, proof as proofText, provedText, encloses, Ruling, says, decision}
-use Rattle.protocol.specs.Decide.{acceptedCiphered, isChallenge, proofIn, provesItself, proved, challenged, challengeEnclosed, conversed, carried, secretsOf, p2}
+use Rattle.protocol.specs.Decide.{acceptedCiphered, isChallenge, proofIn, provesItself, proved, disproved, challenged, challengeEnclosed, conversed, carried, secretsOf, p2}
 use Rattle.protocol.specs.Outcomes.{outcome, headIn, said}
-use Rattle.protocol.specs.Lazy.{Enough, up, keyedInitiate, aarqAround, challengeByte, proofAction, Entrance, Allowed, Enters, LetInCiphering, CipheringLetIn}
+use Rattle.protocol.specs.Lazy.{Enough, up, keyedInitiate, aarqAround, challengeByte, proofAction, Entrance, Allowed, Enters, LetInCiphering, CipheringLetIn, Proving, WrongStepsDenied}
 use Rattle.protocol.proofs.Claim.{p2-stays-sound}
 use Rattle.protocol.proofs.LineLaws.{own-ciphering, own-title, own-part, replaced}
 use Rattle.protocol.proofs.LinkUp.{outcome-ruled, ruled-request, tag-first, up-outcome, up-sound}
-use Rattle.protocol.proofs.SecondRow.{tag-sealed}
+use Rattle.protocol.proofs.Enclosed.{tag-sealed, link-up-of}
 
 -- The initiate request.
 
@@ -241,16 +243,17 @@ module _ (c : CipherClient) (l : Line) (a : Secrets) (h : Head) {from agreed key
   abbrev k : Keys
   k = lentKeys a
 
-  proof-carried : inWindow (n .accepted) outer ≡ true → innerAllowed (n .accepted) outer inner ≡ true → inner < 256 ^ 4 → outer < 256 ^ 4
-      → carried l a (Ciphering c) h (sealedEnvelope k from 0xCB outer (proofAction c invoke (proofValue k from meter inner))) ≡ proved l a c h invoke outer
+  proof-carried : {allowed : Bool} → inWindow (n .accepted) outer ≡ true → innerAllowed (n .accepted) outer inner ≡ allowed → inner < 256 ^ 4 → outer < 256 ^ 4
+      → carried l a (Ciphering c) h (sealedEnvelope k from 0xCB outer (proofAction c invoke (proofValue k from meter inner)))
+      ≡ cond allowed (proved l a c h invoke outer) (disproved l a c h invoke outer)
   unfolding carried conversed challengeEnclosed challenged provesItself tagOf longestApdu greatestApdu longestReceived envelopeLength lengthField
-  proof-carried w i small small' =
+  proof-carried {allowed} w i small small' =
       let rest = proof-rest k from meter inner in
       let size = length-rest k from meter inner in
       let form = proof-form k from meter inner in
       let text = proofAction c invoke (0x09 ∷ 0x11 ∷ rest) in
       let long = length-action c invoke rest size in
-      let right : rightProof k from meter (n .accepted) outer (0x09 ∷ 0x11 ∷ rest) ≡ true = rw (← form) (proof-right k from meter inner small (n .accepted) outer ∙ i) in
+      let right : rightProof k from meter (n .accepted) outer (0x09 ∷ 0x11 ∷ rest) ≡ allowed = rw (← form) (proof-right k from meter inner small (n .accepted) outer ∙ i) in
       let stands = ap (λ (p : CipheringPeer). p .peer) is-pending in
       let holds = ap (λ (p : CipheringPeer). p .peer .association) is-pending in
       let counted-so = ap (λ (p : CipheringPeer). p .counters) is-pending in
@@ -370,7 +373,7 @@ module _ (c : CipherClient) (m : Model) (e : Entrance) (link aarq proof : Lent) 
       let fifty = length-enclosed (e .key) (e .services) (e .size) (ok .key) (ok .services) (ok .size) (lentKeys (secretsOf aarq)) from (e .first) in
       let long = length-aarq c from (e .challenge) env eight (ok .challenge) fifty in
       let reached = ruled-request (up (Ciphering c) l) aarq (Ciphering c) (aarqAround from (e .challenge) env) (enters .asks) (omega arith) (omega arith) in
-      let carries = aarq-carried c l (secretsOf aarq) (headIn aarq) (e .challenge) (e .key) (e .services) (e .size) (e .first) eight (ok .challenge) (ok .key) (ok .services) (ok .size) (ok .enough) (omega (arith, ok .above, ok .below, ok .small)) in
+      let carries = aarq-carried c l (secretsOf aarq) (headIn aarq) (e .challenge) (e .key) (e .services) (e .size) (e .first) eight (ok .challenge) (ok .key) (ok .services) (ok .size) (ok .enough) (ok .small) in
       outcome-ruled aarq m₁ enough₂ (up-sound (Ciphering c) m link s refl enough₁ (enters .links))
       ∙ ap (λ (r : Ruling). decided p2 (decision r) m₁) (reached ∙ carries ∙ begun c l e (secretsOf aarq) (headIn aarq))
 
@@ -384,20 +387,20 @@ module _ (c : CipherClient) (m : Model) (e : Entrance) (link aarq proof : Lent) 
       (apduFrame (headIn proof)
       (sealedEnvelope keys (l .title) 0xCF (nextCounter number) (provedText keys (l .title) (e .challenge) (e .invoke) number)))
       (withCounters c (record { accepted = e .outer; sent = nextCounter number }) (associates (Ciphering c) (associated agreed (e .key)) (up (Ciphering c) l))) m)
-  unfolding longestReceived inWindow innerAllowed taken accepting envelopeLength lengthField
+  unfolding longestReceived taken accepting envelopeLength lengthField
   proof-outcome =
       let from = ciphering c l .peer .title in
       let k = lentKeys (secretsOf proof) in
       let value = proofValue k from (aarq .challenge) (e .inner) in
       let text = proofAction c (e .invoke) value in
       let env = sealedEnvelope k from 0xCB (e .outer) text in
-      let window : inWindow (e .first) (e .outer) ≡ true = rw (lt-ltb (e .first) (e .outer) (omega (arith, ok .above, ok .below)), le-leb (e .outer) (e .first + windowSize) (ok .window)) in
-      let inner : innerAllowed (e .first) (e .outer) (e .inner) ≡ true = rw (lt-ltb (e .first) (e .inner) (ok .above), lt-ltb (e .inner) (e .outer) (ok .below)) in
+      let window = window-by-steps .passes (e .first) (e .outer) (ok .window) in
+      let inner = inner-by-steps .allowed (e .first) (e .outer) (e .inner) (ok .between) in
       let size : length text ≡ 32 = rw (proof-form k from (aarq .challenge) (e .inner)) (length-action c (e .invoke) (proof-rest k from (aarq .challenge) (e .inner)) (length-rest k from (aarq .challenge) (e .inner))) in
       let long : length env ≡ 51 = length-envelope k from 0xCB (e .outer) text ∙ rw size in
       let after = asked-line c l e (aarq .challenge) in
       let reached = ruled-request after proof (Ciphering c) env (enters .proves) (omega arith) (omega arith) in
-      let carries = proof-carried c after (secretsOf proof) (headIn proof) (asked-part c l e (aarq .challenge)) (e .invoke) (e .inner) (e .outer) window inner (omega (arith, ok .below, ok .small)) (ok .small) in
+      let carries = proof-carried c after (secretsOf proof) (headIn proof) (asked-part c l e (aarq .challenge)) (e .invoke) (e .inner) (e .outer) window inner (omega (arith, ok .between .inside)) (omega (arith, ok .window .counts)) in
       outcome-ruled proof m₂ enough₃ second-sound
       ∙ ap (λ (r : Ruling). decided p2 (decision r) m₂) (reached ∙ carries ∙ proven c l e (secretsOf proof) (headIn proof) (aarq .challenge))
 
@@ -410,3 +413,49 @@ module _ (c : CipherClient) (m : Model) (e : Entrance) (link aarq proof : Lent) 
 
 pub ciphering-let-in : CipheringLetIn
 ciphering-let-in c m e link aarq proof s eight enough₁ enough₂ enough₃ ok enters = let-in c m e link aarq proof s eight enough₁ enough₂ enough₃ ok enters
+
+-- A proof that proves nothing.
+
+module _ (c : CipherClient) (a : Lent) (m : Model) (outer inner invoke : ℕ) (s : sound m ≡ true) (p : Proving c a (m .line) outer inner invoke) where
+  abbrev sender : List ℕ
+  sender = ciphering c (m .line) .peer .title
+
+  -- the client's part of the line
+  abbrev pendingPart : CipheringPeer
+  pendingPart = record { peer = record { title = sender; up = true; association = pending (p .agreed) (p .key) (p .client) (p .challenge) }; counters = counters c (m .line) }
+
+  pending-part : ciphering c (m .line) ≡ pendingPart
+  pending-part =
+      let up = link-up-of c m s (ap isNone (p .pends)) in
+      ap (λ (b : Bool). record { peer = record { title = sender; up = b; association = held c (m .line) }; counters = counters c (m .line) }) up
+      ∙ ap (λ (x : Association). record { peer = record { title = sender; up = true; association = x }; counters = counters c (m .line) }) (p .pends)
+
+  not-allowed : (StepsBetween (counters c (m .line) .accepted) outer inner → ⊥) → innerAllowed (counters c (m .line) .accepted) outer inner ≡ false
+  not-allowed off = go (innerAllowed (counters c (m .line) .accepted) outer inner) refl
+    where
+      go : (b : Bool) → innerAllowed (counters c (m .line) .accepted) outer inner ≡ b → b ≡ false
+      go true e = absurd (off (inner-by-steps .only (counters c (m .line) .accepted) outer inner (omega (arith, p .window .counts)) (omega (arith, p .small)) e))
+      go false e = refl
+
+disproved-outcome : (c : CipherClient) (a : Lent) (m : Model) (invoke outer : ℕ)
+    → decided p2 (decision (disproved (m .line) (secretsOf a) c (headIn a) invoke outer)) m
+    ≡ (let number = nextCounter (counters c (m .line) .sent) in
+    said 13
+    (apduFrame (headIn a) (sealedEnvelope (lentKeys (secretsOf a)) (m .line .title) 0xCF number (actionAnswer invoke (denied 250))))
+    (withCounters c (record { accepted = outer; sent = number }) (associates (Ciphering c) unassociated (m .line))) m)
+unfolding disproved taken accepting
+disproved-outcome Han a m invoke outer = refl
+
+pub wrong-steps-denied : WrongStepsDenied
+unfolding longestReceived envelopeLength lengthField
+wrong-steps-denied c a m outer inner invoke s p off =
+    let from = ciphering c (m .line) .peer .title in
+    let k = lentKeys (secretsOf a) in
+    let text = proofAction c invoke (proofValue k from (p .challenge) inner) in
+    let env = sealedEnvelope k from 0xCB outer text in
+    let size : length text ≡ 32 = rw (proof-form k from (p .challenge) inner) (length-action c invoke (proof-rest k from (p .challenge) inner) (length-rest k from (p .challenge) inner)) in
+    let long : length env ≡ 51 = length-envelope k from 0xCB outer text ∙ rw size in
+    let window = window-by-steps .passes (counters c (m .line) .accepted) outer (p .window) in
+    let reached = ruled-request (m .line) a (Ciphering c) env (p .received) (omega arith) (omega arith) in
+    let carries = proof-carried c (m .line) (secretsOf a) (headIn a) (pending-part c a m outer inner invoke s p) invoke inner outer window (not-allowed c a m outer inner invoke s p off) (p .small) (omega (arith, p .window .counts)) in
+    outcome-ruled a m (p .enough) s ∙ ap (λ (r : Ruling). decided p2 (decision r) m) (reached ∙ carries) ∙ disproved-outcome c a m invoke outer

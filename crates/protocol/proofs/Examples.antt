@@ -15,7 +15,7 @@ use Rattle.hdlc.specs.Layout.{formatOf, hcsOf, informationOf, fcsOf, headBytes,
 use Rattle.hdlc.specs.Addresses.{senderOf}
 use Rattle.hdlc.specs.Tests.{firstFailing}
 use Rattle.hdlc.specs.Reading.{refusedFrame, acceptedFrame, readFrame}
-use Rattle.counters.specs.Window.{inWindow}
+use Rattle.counters.specs.Window.{stepTo, inWindow}
 use Rattle.protocol.specs.Decide.{linkUp, linkDown, ruled, decide}
 use Rattle.protocol.specs.Examples.{examples, ExamplesNumbered, ExamplesHold}
 
@@ -24,5 +24,5 @@ unfolding examples
 examples-numbered = refl
 
 pub examples-hold : ExamplesHold
-unfolding examples shift steps sameBytes checkOf checkFrom checkByte polynomial longestSent longestReceived replyRoom greatestLength maxRows maxRegisters maxColumns februaryDays daysIn realDate realTime fixedBytes validClock periods newMeter acceptedRegisters acceptedColumns sound isEntryDescriptor describedEntries described entriesWrong entries lentRefusal act step formatOf hcsOf informationOf fcsOf headBytes checked flagged frameOf senderOf firstFailing refusedFrame acceptedFrame readFrame inWindow linkUp linkDown ruled decide
+unfolding examples shift steps sameBytes checkOf checkFrom checkByte polynomial longestSent longestReceived replyRoom greatestLength maxRows maxRegisters maxColumns februaryDays daysIn realDate realTime fixedBytes validClock periods newMeter acceptedRegisters acceptedColumns sound isEntryDescriptor describedEntries described entriesWrong entries lentRefusal act step formatOf hcsOf informationOf fcsOf headBytes checked flagged frameOf senderOf firstFailing refusedFrame acceptedFrame readFrame stepTo inWindow linkUp linkDown ruled decide
 examples-hold = refl

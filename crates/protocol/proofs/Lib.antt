@@ -10,6 +10,7 @@ pub mod Turns
 pub mod Outcomes
 pub mod Framed
 pub mod LinkUp
+pub mod Enclosed
 pub mod SecondRow
 pub mod ByDate
 pub mod Entrance

@@ -1,12 +1,13 @@
 -- The lazy meters that document 01 names ("What the contracts owe the archive"), each shut out by what its calls come to: "the
 -- meter that is always silent, the one that answers DM to all, the one that leaves its state unchanged (a link-up must let an
 -- AARQ in), the one that takes the first row and only pretends at the second, and one with an invented record number or
--- counter". Proved in proofs/LinkUp, proofs/Entrance and proofs/SecondRow. Of the record number speak `DueTicks` and `NumberStays` of the
--- model, proved at this protocol in proofs/Claim.
+-- counter". Proved in proofs/LinkUp, proofs/Entrance, proofs/Enclosed and proofs/SecondRow. Of the record number speak `DueTicks` and
+-- `NumberStays` of the model, proved at this protocol in proofs/Claim. What is let in is told with document 02's steps of counters (Q-3), and
+-- so is what is not: a window that takes any counter, and a proof that proves nothing.
 use mathlib.Core.Path.{_≡_}
 use mathlib.Core.Bool.{true, false}
 use mathlib.Core.List.{List, [], _∷_, _++_}
-use Prim.Native.Nat.{ℕ, _+_, _-_, _^_, _≤_, _<_}
+use Prim.Native.Nat.{ℕ, _-_, _^_, _≤_, _<_}
 use lib.ListN.{length, take}
 use Rattle.wire.specs.Numbers.{numberHigh}
 use Rattle.model.specs.declared.Client.{Client}
@@ -18,10 +19,10 @@ use Rattle.model.specs.Limits.{longestSent, longestReceived, replyRoom, envelop
 use Rattle.model.specs.Clocks.{validClock}
 use Rattle.model.specs.Periods.{captureDue}
 use Rattle.model.specs.Services.{offered, common}
-use Rattle.model.specs.State.{pending, associated, Line, Model, Entry, newMeter}
+use Rattle.model.specs.State.{none, pending, associated, Line, Model, Entry, newMeter}
 use Rattle.model.specs.Soundness.{sound}
-use Rattle.model.specs.Objects.{granted, rowsData, getAnswer, turned}
-use Rattle.model.specs.Calls.{Lent, owner, tick, step}
+use Rattle.model.specs.Objects.{denied, granted, rowsData, getAnswer, actionAnswer, turned}
+use Rattle.model.specs.Calls.{Lent, owner, tick, Outcome, step}
 use Rattle.model.specs.Archive.{rowsOf, dueRow}
 use Rattle.hdlc.specs.declared.Head.{Head}
 use Rattle.hdlc.specs.declared.Frame.the-variants.{LinkUp}
@@ -41,7 +42,7 @@ use Rattle.acse.specs.Clients.{plainContext, cipheredContext, noSecurity, gmacS
 use Rattle.acse.specs.Initiate.{initiateResponse}
 use Rattle.acse.specs.Aare.{plainAare, cipheredAareHead}
 use Rattle.counters.specs.Advance.{nextCounter}
-use Rattle.counters.specs.Window.{windowSize}
+use Rattle.counters.specs.Steps.{StepsInside, StepsOutside, StepsBetween}
 use Rattle.material.specs.Material.{Keys, keysFrom}
 use Rattle.envelope.specs.Layout.{sealedEnvelope}
 use Rattle.envelope.specs.Opening.{opens, opened}
@@ -51,7 +52,7 @@ use Rattle.protocol.specs.Clients.{ciphering, held, peer, withPeer, link
 use Rattle.protocol.specs.Rulings.{provedText}
 use Rattle.protocol.specs.Decide.{accepted, advanced, p2}
 use Rattle.protocol.specs.Examples.{linkUpFrame}
-use Rattle.protocol.specs.Outcomes.{outcome, headIn, apduOf, said, MaySend, Accepted, toH}
+use Rattle.protocol.specs.Outcomes.{outcome, headIn, apduOf, said, MaySend, toH}
 
 -- enough is lent: neither "reply room below 779", nor "lent GUK or AK not 16 bytes, or challenge not 8"
 pub record Enough (a : Lent) : Type 0 where
@@ -198,18 +199,17 @@ pub record Entrance : Type 0 where
   pub outer : ℕ
   pub invoke : ℕ
 
--- of the right lengths, a size that is enough, and counters that are allowed: "greater than the last accepted by at most 180";
--- "the inner .. above the last accepted and below the envelope's"
+-- of the right lengths, a size that is enough, and counters that are allowed. The AARQ's, of four bytes, becomes the last accepted; from it
+-- the envelope's step is "1 to 180", and the inner one's "1 or more and below its envelope's" (document 02, Q-3).
 pub record Allowed (e : Entrance) : Type 0 where
   pub key : length (e .key) ≡ 16
   pub challenge : length (e .challenge) ≡ 8
   pub services : length (e .services) ≡ 3
   pub size : length (e .size) ≡ 2
   pub enough : leastSize longestSent ≤ numberHigh (e .size)
-  pub above : e .first < e .inner
-  pub below : e .inner < e .outer
-  pub window : e .outer ≤ e .first + windowSize
-  pub small : e .outer < 256 ^ 4
+  pub small : e .first < 256 ^ 4
+  pub window : StepsInside (e .first) (e .outer)
+  pub between : StepsBetween (e .first) (e .outer) (e .inner)
 
 -- the three frames, by its title; the second is lent the challenge that the third answers
 pub record Enters (c : CipherClient) (title : List ℕ) (e : Entrance) (link aarq proof : Lent) : Type 0 where
@@ -263,31 +263,108 @@ CipheringLetIn =
     → Enters c (ciphering c (m .line) .peer .title) e link aarq proof
     → LetInCiphering c m e link aarq proof
 
+-- A proof that proves nothing.
+
+-- a pending client sends a proof under the right keys, in an envelope whose counter is in the window
+pub record Proving (c : CipherClient) (a : Lent) (l : Line) (outer inner invoke : ℕ) : Type 0 where
+  pub enough : Enough a
+  pub agreed : List ℕ
+  pub key : List ℕ
+  pub client : List ℕ
+  pub challenge : List ℕ
+  pub pends : held c l ≡ pending agreed key client challenge
+  pub window : StepsInside (counters c l .accepted) outer
+  pub small : inner < 256 ^ 4
+  pub received :
+      a .received
+      ≡ (let title = ciphering c l .peer .title in
+      requestFrame (Ciphering c)
+      (sealedEnvelope (entranceKeys a) title 0xCB outer (proofAction c invoke (proofValue (entranceKeys a) title challenge inner))))
+
+-- where the proof's own counter does not lie between the last accepted and the envelope's, it gets code 250, and the association has ended
+abbrev pub WrongStepsDenied : Type 0
+WrongStepsDenied =
+    (c : CipherClient) (a : Lent) (m : Model) (outer inner invoke : ℕ)
+    → sound m ≡ true
+    → Proving c a (m .line) outer inner invoke
+    → (StepsBetween (counters c (m .line) .accepted) outer inner → ⊥)
+    → outcome a m
+    ≡ (let number = nextCounter (counters c (m .line) .sent) in
+    said 13
+    (apduFrame (headIn a) (sealedEnvelope (entranceKeys a) (m .line .title) 0xCF number (actionAnswer invoke (denied 250))))
+    (withCounters c (record { accepted = outer; sent = number }) (associates (Ciphering c) none (m .line)))
+    m)
+
 -- An invented counter: every request in an envelope that is opened and read.
 
--- an associated client asks this text by this service, in an envelope under the dedicated key, with a counter in the window
-pub record Asking (c : CipherClient) (a : Lent) (l : Line) (k : ServiceKind) (counter : ℕ) (text : List ℕ) : Type 0 where
+-- an associated client sends this text by this service, in an envelope under the dedicated key, with this counter
+pub record Sending (c : CipherClient) (a : Lent) (l : Line) (k : ServiceKind) (counter : ℕ) (text : List ℕ) : Type 0 where
   pub enough : Enough a
   pub may : MaySend (Ciphering c) (held c l) (DedicatedRequest k)
-  pub window : Accepted c counter l
   pub small : counter < 256 ^ 4
   pub short : envelopeLength (length text) ≤ greatestApdu longestReceived
   pub received : a .received ≡ requestFrame (Ciphering c) (sealedEnvelope (requestKeys c a l) (ciphering c l .peer .title) (dedicatedTag k) counter text)
 
--- it has the body's answer, sealed under the meter's counter plus one, which the line then holds beside the client's
+-- and the counter is 1 to 180 steps after the last accepted
+pub record Asking (c : CipherClient) (a : Lent) (l : Line) (k : ServiceKind) (counter : ℕ) (text : List ℕ) : Type 0 where
+  pub sends : Sending c a l k counter text
+  pub window : StepsInside (counters c l .accepted) counter
+
+-- the body's answer, sealed under the meter's counter plus one, which the line then holds beside the client's
+abbrev pub answerTo : CipherClient → Lent → Model → ServiceKind → (counter : ℕ) → (text : List ℕ) → Asked → Outcome
+answerTo c a m k counter text q =
+    let t = turned (requested (Ciphering c) (selectiveIn (Ciphering c) (m .line)) text q) (m .body) in
+    record {
+      refusal = t .refusal;
+      sent = toH a (m .line) c (dedicatedTag k) (t .bytes);
+      next = record { line = advanced c (accepted c counter (m .line)); body = t .body };
+    }
+
 abbrev pub NextCounter : Type 0
 NextCounter =
     (c : CipherClient) (a : Lent) (m : Model) (k : ServiceKind) (counter : ℕ) (text : List ℕ) (q : Asked)
     → sound m ≡ true
     → Asking c a (m .line) k counter text
     → readService k text ≡ Asks q
-    → outcome a m
-    ≡ (let t = turned (requested (Ciphering c) (selectiveIn (Ciphering c) (m .line)) text q) (m .body) in
-    record {
-      refusal = t .refusal;
-      sent = toH a (m .line) c (dedicatedTag k) (t .bytes);
-      next = record { line = advanced c (accepted c counter (m .line)); body = t .body };
-    })
+    → outcome a m ≡ answerTo c a m k counter text q
+
+-- A window that takes any counter: with one outside nothing goes out, the number is 7, and the association has ended.
+abbrev pub OutsideDropped : Type 0
+OutsideDropped =
+    (c : CipherClient) (a : Lent) (m : Model) (k : ServiceKind) (counter : ℕ) (text : List ℕ)
+    → sound m ≡ true
+    → Sending c a (m .line) k counter text
+    → StepsOutside (counters c (m .line) .accepted) counter
+    → outcome a m ≡ said 7 [] (associates (Ciphering c) none (m .line)) m
+
+-- "After 4294967290, the counter 5 passes (step 11) and 4294967290 doesn't."
+pub record OverTheTop : Type 0 where
+  pub passes :
+      (c : CipherClient) (a : Lent) (m : Model) (k : ServiceKind) (text : List ℕ) (q : Asked)
+      → sound m ≡ true
+      → counters c (m .line) .accepted ≡ 4294967290
+      → Sending c a (m .line) k 5 text
+      → readService k text ≡ Asks q
+      → outcome a m ≡ answerTo c a m k 5 text q
+  pub fails :
+      (c : CipherClient) (a : Lent) (m : Model) (k : ServiceKind) (text : List ℕ)
+      → sound m ≡ true
+      → counters c (m .line) .accepted ≡ 4294967290
+      → Sending c a (m .line) k 4294967290 text
+      → outcome a m ≡ said 7 [] (associates (Ciphering c) none (m .line)) m
+
+-- and there is such a meter, and a frame of either kind
+pub record OverTheTopHappens : Type 0 where
+  pub meter : Model
+  pub text : List ℕ
+  pub asked : Asked
+  pub later : Lent
+  pub again : Lent
+  pub isSound : sound meter ≡ true
+  pub last : counters Han (meter .line) .accepted ≡ 4294967290
+  pub reads : readService Get text ≡ Asks asked
+  pub goesOn : Sending Han later (meter .line) Get 5 text
+  pub repeats : Sending Han again (meter .line) Get 4294967290 text
 
 -- "The one that takes the first row and only pretends at the second."
 
