@@ -1,6 +1,6 @@
 -- The claims of specs/Steps. Three laws tie the step, which takes away, to counters told by adding; the rest follows from them.
 use mathlib.Core.Path.{_≡_, refl, sym, ap, _∙_}
-use mathlib.Core.Bool.{Bool, true, false, _&&_}
+use mathlib.Core.Bool.{Bool, true, false, cond, _&&_}
 use mathlib.Core.Logic.{_⊎_, inl, inr}
 use Prim.Native.Nat.{ℕ, zero, suc, _+_, _-_, _^_, _%_, _≤_, _<_}
 use native.Mathlib.Numerals.{unary-clauses}
@@ -88,15 +88,13 @@ unfolding passing
 passing-same p q zero same = refl
 passing-same p q (suc n) same = rw (passing-same p q n (λ i h. same i (omega arith)), same n (omega arith))
 
-passing-none : (p : ℕ → Bool) (n : ℕ) → ((i : ℕ) → i < n → p i ≡ false) → passing p n ≡ 0
+-- where the test is one answer, all or none
+passing-const : (b : Bool) (n : ℕ) → passing (λ i. b) n ≡ cond b n 0
 unfolding passing
-passing-none p zero none = refl
-passing-none p (suc n) none = rw (passing-none p n (λ i h. none i (omega arith)), none n (omega arith))
-
-passing-all : (p : ℕ → Bool) (n : ℕ) → ((i : ℕ) → i < n → p i ≡ true) → passing p n ≡ n
-unfolding passing
-passing-all p zero all = refl
-passing-all p (suc n) all = rw (passing-all p n (λ i h. all i (omega arith)), all n (omega arith)) (omega arith)
+passing-const true zero = refl
+passing-const true (suc n) = rw (passing-const true n) (omega arith)
+passing-const false zero = refl
+passing-const false (suc n) = rw (passing-const false n)
 
 -- counted from any counter on, round to it again, as many pass
 passing-round : (p : ℕ → Bool) (start : ℕ) → start < 2 ^ 32 → passing p (2 ^ 32) ≡ passing (λ i. p (stepsOn start i)) (2 ^ 32)
@@ -114,9 +112,10 @@ passing-steps : (others : ℕ) → passing isStep (1 + (windowSize + others)) �
 passing-steps others =
     let first = passing-split isStep 1 (windowSize + others) in
     let second = passing-split (λ i. isStep (1 + i)) windowSize others in
-    let none = passing-none isStep 1 (λ i h. step-fails i (λ k. omega arith)) in
-    let all = passing-all (λ i. isStep (1 + i)) windowSize (λ i h. step-passes (1 + i) (omega arith) (omega arith)) in
-    let beyond = passing-none (λ i. isStep (1 + (windowSize + i))) others (λ i h. step-fails (1 + (windowSize + i)) (λ k. omega arith)) in
+    let none = passing-same isStep (λ i. false) 1 (λ i h. step-fails i (λ k. omega arith)) ∙ passing-const false 1 in
+    let all = passing-same (λ i. isStep (1 + i)) (λ i. true) windowSize (λ i h. step-passes (1 + i) (omega arith) (omega arith)) ∙ passing-const true windowSize in
+    let beyond =
+    passing-same (λ i. isStep (1 + (windowSize + i))) (λ i. false) others (λ i h. step-fails (1 + (windowSize + i)) (λ k. omega arith)) ∙ passing-const false others in
     omega (arith, first, second, none, all, beyond)
 
 pub exactly-180 : Exactly180

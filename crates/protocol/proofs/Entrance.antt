@@ -238,6 +238,17 @@ proof-form k title challenge counter = refl
 length-rest : (k : Keys) (title challenge : List ℕ) (counter : ℕ) → length (proof-rest k title challenge counter) ≡ 17
 length-rest k title challenge counter = omega (arith, length-proof k title challenge counter, ap length (proof-form k title challenge counter))
 
+-- the ACTION that bears it, and its envelope
+length-proving : (c : CipherClient) (k : Keys) (title challenge : List ℕ) (invoke inner : ℕ) → length (proofAction c invoke (proofValue k title challenge inner)) ≡ 32
+length-proving c k title challenge invoke inner =
+    rw (proof-form k title challenge inner) (length-action c invoke (proof-rest k title challenge inner) (length-rest k title challenge inner))
+
+length-proving-enclosed : (c : CipherClient) (k : Keys) (title challenge : List ℕ) (invoke inner outer : ℕ)
+    → length (sealedEnvelope k title 0xCB outer (proofAction c invoke (proofValue k title challenge inner))) ≡ 51
+unfolding envelopeLength lengthField
+length-proving-enclosed c k title challenge invoke inner outer =
+    length-envelope k title 0xCB outer (proofAction c invoke (proofValue k title challenge inner)) ∙ rw (length-proving c k title challenge invoke inner)
+
 -- on a line with the client pending, its link up
 module _ (c : CipherClient) (l : Line) (a : Secrets) (h : Head) {from agreed key client meter : List ℕ} {n : Counters} (is-pending : ciphering c l ≡ record { peer = record { title = from; up = true; association = pending agreed key client meter }; counters = n }) (invoke inner outer : ℕ) where
   abbrev k : Keys
@@ -387,17 +398,14 @@ module _ (c : CipherClient) (m : Model) (e : Entrance) (link aarq proof : Lent) 
       (apduFrame (headIn proof)
       (sealedEnvelope keys (l .title) 0xCF (nextCounter number) (provedText keys (l .title) (e .challenge) (e .invoke) number)))
       (withCounters c (record { accepted = e .outer; sent = nextCounter number }) (associates (Ciphering c) (associated agreed (e .key)) (up (Ciphering c) l))) m)
-  unfolding longestReceived taken accepting envelopeLength lengthField
+  unfolding longestReceived taken accepting
   proof-outcome =
       let from = ciphering c l .peer .title in
       let k = lentKeys (secretsOf proof) in
-      let value = proofValue k from (aarq .challenge) (e .inner) in
-      let text = proofAction c (e .invoke) value in
-      let env = sealedEnvelope k from 0xCB (e .outer) text in
+      let env = sealedEnvelope k from 0xCB (e .outer) (proofAction c (e .invoke) (proofValue k from (aarq .challenge) (e .inner))) in
       let window = window-by-steps .passes (e .first) (e .outer) (ok .window) in
       let inner = inner-by-steps .allowed (e .first) (e .outer) (e .inner) (ok .between) in
-      let size : length text ≡ 32 = rw (proof-form k from (aarq .challenge) (e .inner)) (length-action c (e .invoke) (proof-rest k from (aarq .challenge) (e .inner)) (length-rest k from (aarq .challenge) (e .inner))) in
-      let long : length env ≡ 51 = length-envelope k from 0xCB (e .outer) text ∙ rw size in
+      let long = length-proving-enclosed c k from (aarq .challenge) (e .invoke) (e .inner) (e .outer) in
       let after = asked-line c l e (aarq .challenge) in
       let reached = ruled-request after proof (Ciphering c) env (enters .proves) (omega arith) (omega arith) in
       let carries = proof-carried c after (secretsOf proof) (headIn proof) (asked-part c l e (aarq .challenge)) (e .invoke) (e .inner) (e .outer) window inner (omega (arith, ok .between .inside)) (omega (arith, ok .window .counts)) in
@@ -447,14 +455,12 @@ unfolding disproved taken accepting
 disproved-outcome Han a m invoke outer = refl
 
 pub wrong-steps-denied : WrongStepsDenied
-unfolding longestReceived envelopeLength lengthField
+unfolding longestReceived
 wrong-steps-denied c a m outer inner invoke s p off =
     let from = ciphering c (m .line) .peer .title in
     let k = lentKeys (secretsOf a) in
-    let text = proofAction c invoke (proofValue k from (p .challenge) inner) in
-    let env = sealedEnvelope k from 0xCB outer text in
-    let size : length text ≡ 32 = rw (proof-form k from (p .challenge) inner) (length-action c invoke (proof-rest k from (p .challenge) inner) (length-rest k from (p .challenge) inner)) in
-    let long : length env ≡ 51 = length-envelope k from 0xCB outer text ∙ rw size in
+    let env = sealedEnvelope k from 0xCB outer (proofAction c invoke (proofValue k from (p .challenge) inner)) in
+    let long = length-proving-enclosed c k from (p .challenge) invoke inner outer in
     let window = window-by-steps .passes (counters c (m .line) .accepted) outer (p .window) in
     let reached = ruled-request (m .line) a (Ciphering c) env (p .received) (omega arith) (omega arith) in
     let carries = proof-carried c (m .line) (secretsOf a) (headIn a) (pending-part c a m outer inner invoke s p) invoke inner outer window (not-allowed c a m outer inner invoke s p off) (p .small) (omega (arith, p .window .counts)) in
