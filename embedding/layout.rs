@@ -1,11 +1,12 @@
 //! The places of an image: made from include/layout.txt by include/make.
 #![allow(dead_code)]
 
-pub const LAYOUT: u8 = 1;
-pub const STATE_SIZE: usize = 1728;
+pub const LAYOUT: u8 = 2;
+pub const STATE_SIZE: usize = 1766;
 pub const CLIENT_SIZE: usize = 13;
 pub const REGISTER_SIZE: usize = 13;
 pub const ROW_SIZE: usize = 86;
+pub const TRANSFER_SIZE: usize = 38;
 pub const REGISTERS: usize = 16;
 pub const COLUMNS: usize = 16;
 pub const ROWS: usize = 15;
@@ -37,6 +38,7 @@ pub const AT_ROW_COUNT: usize = 430;
 pub const fn at_row(i: usize) -> usize {
     438 + 86 * i
 }
+pub const AT_TRANSFER: usize = 1728;
 
 pub const IN_CLIENT_TITLE: usize = 0;
 pub const IN_CLIENT_LINK: usize = 8;
@@ -55,3 +57,11 @@ pub const IN_ROW_CELL_COUNT: usize = 14;
 pub const fn in_row_cell(i: usize) -> usize {
     22 + 4 * i
 }
+
+pub const IN_TRANSFER_STATE: usize = 0;
+pub const IN_TRANSFER_SELECTOR: usize = 1;
+pub const IN_TRANSFER_FROM_CLOCK: usize = 2;
+pub const IN_TRANSFER_TO_CLOCK: usize = 14;
+pub const IN_TRANSFER_FROM_ENTRY: usize = 26;
+pub const IN_TRANSFER_TO_ENTRY: usize = 30;
+pub const IN_TRANSFER_BLOCK: usize = 34;

@@ -15,8 +15,8 @@
  * library's own, 101, 102 and 104. An owner's call that is refused writes nothing. A frame call writes the whole state
  * buffer, changed or not, where it answers 0, 7, 12 or 13, and else nothing of it. What is written has zeros wherever the
  * meter holds nothing: in registers, columns and rows above their counts, in the keys, challenges and services of
- * associations that are over, and in challenges that were answered. So two buffers that were written are equal exactly where
- * their meters hold the same.
+ * associations that are over, in challenges that were answered, and in what H's transfer does not use. So two buffers that
+ * were written are equal exactly where their meters hold the same.
  */
 #ifndef BIRLIMOCK_H
 #define BIRLIMOCK_H
@@ -28,10 +28,10 @@
 extern "C" {
 #endif
 
-/* The version that this header belongs to, three numbers in one: 20100 is 2.1.0. The first grows where a program, a client at the plug
+/* The version that this header belongs to, three numbers in one: 30000 is 3.0.0. The first grows where a program, a client at the plug
  * or a stored state of the version before does not fit any more, the second where a call, an answer or a number comes beside those that
  * stand, the third where no caller can see a difference. birlimock_version() answers that of the library which was linked. */
-#define BIRLIMOCK_VERSION 20100
+#define BIRLIMOCK_VERSION 30000
 
 /* The room for a reply that a frame call asks for: the longest frame. */
 #define BIRLIMOCK_REPLY_ROOM 779
@@ -52,13 +52,14 @@ extern "C" {
 /* made from include/layout.txt by include/make: */
 
 /* The first byte of a state buffer: the version of this layout. */
-#define BIRLIMOCK_LAYOUT 1
+#define BIRLIMOCK_LAYOUT 2
 
 /* How many bytes a state buffer and the records in it have. birlimock_state_size() answers the first at run time. */
-#define BIRLIMOCK_STATE_SIZE 1728
+#define BIRLIMOCK_STATE_SIZE 1766
 #define BIRLIMOCK_CLIENT_SIZE 13
 #define BIRLIMOCK_REGISTER_SIZE 13
 #define BIRLIMOCK_ROW_SIZE 86
+#define BIRLIMOCK_TRANSFER_SIZE 38
 
 /* How many of each there are room for; a count says how many are there. */
 #define BIRLIMOCK_REGISTERS 16
@@ -87,6 +88,7 @@ extern "C" {
 #define BIRLIMOCK_AT_COLUMN(i) (334 + 6 * (i))               /* 6 bytes: column i, a name, for i from 0 to 15 */
 #define BIRLIMOCK_AT_ROW_COUNT 430                           /* 8 bytes: how many rows there are */
 #define BIRLIMOCK_AT_ROW(i) (438 + 86 * (i))                 /* 86 bytes: row i, newest first, for i from 0 to 14 */
+#define BIRLIMOCK_AT_TRANSFER 1728                           /* 38 bytes: H's transfer, a read in blocks */
 
 /* Where fields stand in a client. */
 #define BIRLIMOCK_IN_CLIENT_TITLE 0                          /* 8 bytes: title */
@@ -106,6 +108,15 @@ extern "C" {
 #define BIRLIMOCK_IN_ROW_CLOCK 2                             /* 12 bytes: clock */
 #define BIRLIMOCK_IN_ROW_CELL_COUNT 14                       /* 8 bytes: how many cells it has */
 #define BIRLIMOCK_IN_ROW_CELL(j) (22 + 4 * (j))              /* 4 bytes: cell j, for j from 0 to 15 */
+
+/* Where fields stand in a transfer. */
+#define BIRLIMOCK_IN_TRANSFER_STATE 0                        /* 1 byte: 0 none, 1 running, 2 ended meanwhile */
+#define BIRLIMOCK_IN_TRANSFER_SELECTOR 1                     /* 1 byte: the rows that were asked for: 0 all of them, 1 by date, 2 by entries */
+#define BIRLIMOCK_IN_TRANSFER_FROM_CLOCK 2                   /* 12 bytes: by date: rows later than this clock */
+#define BIRLIMOCK_IN_TRANSFER_TO_CLOCK 14                    /* 12 bytes: by date: and not later than this one */
+#define BIRLIMOCK_IN_TRANSFER_FROM_ENTRY 26                  /* 4 bytes: by entries: the first */
+#define BIRLIMOCK_IN_TRANSFER_TO_ENTRY 30                    /* 4 bytes: by entries: the last, as it was asked for */
+#define BIRLIMOCK_IN_TRANSFER_BLOCK 34                       /* 4 bytes: the number of the block sent last */
 
 /* end of what is made */
 
@@ -152,9 +163,12 @@ uint8_t birlimock_new(uint8_t *state, size_t state_len,
                       const uint8_t *h_title, size_t h_title_len);
 
 /* The owner's calls. Refusals of each: 101, 102; then 3, the state is unsound (a flag that is neither 0 nor 1, a phase
- * above 2; lists, period or clocks that the calls below would refuse, more than 15 rows, cells that are not one for each
- * column; an association of a kind that the client cannot have, on a link that is down, or with services that were not
- * offered); then its own. Each writes the whole state buffer where it answers 0, and else nothing. */
+ * above 2, a state or selector of a transfer above 2; lists, period or clocks that the calls below would refuse, more than
+ * 15 rows, cells that are not one for each column; an association of a kind that the client cannot have, on a link that is
+ * down, or with services that were not offered; a transfer that no calls could have left with H's association and the rows
+ * as they stand); then its own. Each writes the whole state buffer where it answers 0, and else nothing.
+ * Registers given, columns set and a tick that takes a row end a transfer that runs: H is told so at its next numbered
+ * request. */
 
 /* Registers are given anew, from whole records; columns and rows are emptied. Own refusal: 16, no whole records, a flag in
  * one that is neither 0 nor 1, more than 16 records, a name twice, or a name of the meter's own objects (0.0.1.0.0.255,
@@ -185,9 +199,9 @@ uint8_t birlimock_tick(uint8_t *state, size_t state_len,
 /* The P5 flag, which keeps V from linking: 1 sets it, 0 clears it, any other number is refused by 104, after 3. */
 uint8_t birlimock_set_p5(uint8_t *state, size_t state_len, uint32_t held);
 
-/* Power-up: links and associations end; counters, rows and record number are cleared. To be called after every start, and
- * with a new GUK: the meter's counters begin at 1 again, so under the same GUK it seals with numbers that were used before
- * (docs/EMBEDDING.md, "Keeping the state"). */
+/* Power-up: links and associations end, and with H's its transfer; counters, rows and record number are cleared. To be
+ * called after every start, and with a new GUK: the meter's counters begin at 1 again, so under the same GUK it seals
+ * with numbers that were used before (docs/EMBEDDING.md, "Keeping the state"). */
 uint8_t birlimock_power_up(uint8_t *state, size_t state_len);
 
 /* The frame call: a frame was received. Lent are GUK and AK (16 bytes each), a challenge of 8 bytes that the caller draws

@@ -43,10 +43,11 @@ impl Answer {
         }
     }
 
-    /// The result code in a sealed answer that denies a GET or an ACTION.
+    /// The result code in a sealed answer that denies a GET, a request for a block or an ACTION.
     fn denial(&self) -> Option<u8> {
         match self.outcome.sealed.as_ref()?.plain[..] {
             [0xC4, 0x01, _, 0x01, code] | [0xC7, 0x01, _, code, 0x00] => Some(code),
+            [0xC4, 0x02, _, 0x01, _, _, _, _, 0x01, code] => Some(code),
             _ => None,
         }
     }
@@ -109,9 +110,12 @@ impl Exchange {
         Ok(())
     }
 
-    /// The calls since the heading have prepared the meter: in their place stands its image.
+    /// The calls since the heading have prepared the meter: in their place stands its image. What was refused is no preparation.
     fn prepared(&mut self) -> Result<(), String> {
         let (input, output) = self.headed;
+        if self.output[output..].iter().any(|answer| !answer.starts_with("0 ")) {
+            return Err("this would leave out a case: a call since the heading was refused".into());
+        }
         self.input.truncate(input);
         self.output.truncate(output);
         let image = calls::lines("changed", self.program.meter(), self.letters)?;

@@ -13,7 +13,7 @@ pub fn change(words: &mut Words, image: &mut [u8]) -> Result<(), String> {
     if let Some(clock) = words.bytes("clock")? {
         put(image, AT_CLOCK, &clock)?;
     }
-    for key in ["link", "phase", "services", "register", "column", "row", "cells"] {
+    for key in ["link", "phase", "services", "register", "column", "row", "cells", "transfer"] {
         while let Some(given) = words.option(key) {
             let (item, value) = given.split_once(':').ok_or(format!("{key} takes ITEM:VALUE"))?;
             let value = if key == "cells" { number::<u64>(value)?.to_be_bytes().into() } else { bytes(value)? };
@@ -23,7 +23,7 @@ pub fn change(words: &mut Words, image: &mut [u8]) -> Result<(), String> {
     Ok(())
 }
 
-/// Where the field of an item stands: of a client, or of a register, a column or a row by its number from 0.
+/// Where the field of an item stands: of a client, of the transfer, or of a register, a column or a row by its number from 0.
 fn place(key: &str, item: &str) -> Result<usize, String> {
     let in_client = match key {
         "link" => IN_CLIENT_LINK,
@@ -32,6 +32,7 @@ fn place(key: &str, item: &str) -> Result<usize, String> {
         "register" => return Ok(at_register(number(item)?) + IN_REGISTER_NAME),
         "column" => return Ok(at_column(number(item)?)),
         "row" => return Ok(at_row(number(item)?) + IN_ROW_CLOCK),
+        "transfer" => return in_transfer(item).map(|place| AT_TRANSFER + place),
         _ => return Ok(at_row(number(item)?) + IN_ROW_CELL_COUNT),
     };
     match item {
@@ -39,4 +40,18 @@ fn place(key: &str, item: &str) -> Result<usize, String> {
         "H" => Ok(AT_H + in_client),
         _ => Err(format!("{key} takes V:BYTES or H:BYTES")),
     }
+}
+
+/// Where a field of a transfer stands in it.
+fn in_transfer(item: &str) -> Result<usize, String> {
+    Ok(match item {
+        "state" => IN_TRANSFER_STATE,
+        "selector" => IN_TRANSFER_SELECTOR,
+        "from-clock" => IN_TRANSFER_FROM_CLOCK,
+        "to-clock" => IN_TRANSFER_TO_CLOCK,
+        "from-entry" => IN_TRANSFER_FROM_ENTRY,
+        "to-entry" => IN_TRANSFER_TO_ENTRY,
+        "block" => IN_TRANSFER_BLOCK,
+        _ => return Err(format!("a transfer has no field {item}")),
+    })
 }

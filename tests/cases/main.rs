@@ -1,8 +1,11 @@
-//! Makes the files that come from tests/cases, or with --check tells where the files that stand are others.
+//! Makes the files that come from tests/cases, or with --check tells where the files that stand are others. With --answer it is the
+//! script program with the second meter in it.
 
 use cases::exchange::Exchange;
 use cases::night::Night;
+use cases::script::{self, Program};
 use std::fs;
+use std::io::{self, BufRead};
 use std::process::ExitCode;
 
 /// A file as it should be.
@@ -16,8 +19,9 @@ fn main() -> ExitCode {
     let done = match &words[..] {
         [] => made().and_then(|files| written(&files)),
         [word] if word == "--check" => made().and_then(|files| checked(&files)),
+        [word] if word == "--answer" => return answered(),
         [path] => shown(path),
-        _ => Err("usage: tests/cases/make [--check | FILE]".into()),
+        _ => Err("usage: tests/cases/make [--check | --answer | FILE]".into()),
     };
     match done {
         Ok(told) => println!("cases: {told}"),
@@ -81,6 +85,32 @@ fn shown(path: &str) -> Result<String, String> {
         }
     }
     Ok(format!("{} answers of the second meter", output.lines().count()))
+}
+
+/// The second meter's answers to lines of the script program from standard input, up to the first that cannot be read.
+fn answered() -> ExitCode {
+    let mut program = Program::started();
+    for (number, line) in io::stdin().lock().lines().enumerate() {
+        let Some(answer) = line.ok().and_then(|line| answer(&mut program, &line)) else {
+            eprintln!("cases: line {} cannot be read", number + 1);
+            return ExitCode::FAILURE;
+        };
+        print!("{answer}");
+    }
+    ExitCode::SUCCESS
+}
+
+/// The line that answers this one, with its end; nothing for a comment, and `None` where the line cannot be read.
+fn answer(program: &mut Program, line: &str) -> Option<String> {
+    if script::is_silent(line.as_bytes()) {
+        return Some(String::new());
+    }
+    let read = script::read(line)?;
+    let outcome = program.answer(&read);
+    Some(match (&read, program.explain(&read)) {
+        (script::Line::Explain(_), Some(explanation)) => format!("{explanation}\n"),
+        _ => script::written(outcome.number, &outcome.reply) + "\n",
+    })
 }
 
 /// The play of the program `day`, and what it prints.

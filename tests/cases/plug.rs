@@ -126,8 +126,10 @@ impl Plug<'_> {
                 Ok(if self.is_han() { self.forged(apdu) } else { apdu })
             }
             "get" if self.is_han() => self.sealed(SEALED_GET, |plug| plug.request(GET)),
+            "next" if self.is_han() => self.sealed(SEALED_GET, Plug::next_block),
             "act" if self.is_han() => self.sealed(SEALED_ACTION, |plug| plug.request(ACTION)),
             "get" => self.request(GET),
+            "next" => self.next_block(),
             "act" => self.request(ACTION),
             "seals" if self.is_han() => {
                 let tag = self.words.byte("the tag")?;
@@ -218,6 +220,13 @@ impl Plug<'_> {
         let [invoke] = self.words.array_or("invoke", [INVOKE])?;
         let head = [&[service, 0x01, invoke], &class.to_be_bytes()[..], &name, &[number]].concat();
         Ok([head, self.addition()?].concat())
+    }
+
+    /// A request for the block behind the one of this number.
+    fn next_block(&mut self) -> Result<Vec<u8>, String> {
+        let number: u32 = self.words.number("the number of a block")?;
+        let [invoke] = self.words.array_or("invoke", [INVOKE])?;
+        Ok([&[GET, 0x02, invoke], &number.to_be_bytes()[..]].concat())
     }
 
     /// What stands behind the attribute or method: nothing, or these bytes, entries or a range.

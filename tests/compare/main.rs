@@ -3,7 +3,7 @@
 //!
 //! compare CALLS SEED FOLDER makes so many calls at random; the folder gets replies for other programs to read, and what can
 //! be answered and never was, a number or what a read by date comes to, is a difference, too, and so are counters around the
-//! overflow that never came. compare --replay INPUT OUTPUT goes through the script program's cases. compare --explain FRAMES
+//! overflow that never came, blocks that were not sent or refused, and transfers that were not ended or forgotten in every way. compare --replay INPUT OUTPUT goes through the script program's cases. compare --explain FRAMES
 //! SEED PROGRAM FOLDER has the script program explain so many frames at random.
 
 mod bench;
@@ -22,6 +22,7 @@ mod run;
 mod samples;
 mod states;
 mod statistics;
+mod transfers;
 mod values;
 
 use std::fs;

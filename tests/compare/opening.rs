@@ -41,8 +41,16 @@ pub fn ciphered(random: &mut Random, sender: &Sender) -> Vec<u8> {
 /// An initiate request with this dedicated key field.
 fn initiate(random: &mut Random, key: &[u8]) -> Vec<u8> {
     let any = random.array();
-    let services =
-        random.pick(&[[0, 0, 0x14], [0, 0, 0x15], [0, 0, 0x15], [0, 0x10, 0x1D], [0xFF; 3], [0xFF; 3], [0xFF; 3], any]);
+    let services = random.pick(&[
+        [0, 0, 0x14],
+        [0, 0, 0x15],
+        [0, 0x10, 0x15],
+        [0, 0x10, 0x1D],
+        [0xFF; 3],
+        [0xFF; 3],
+        [0xFF; 3],
+        any,
+    ]);
     let size = random.pick(&[768_u16, 768, 768, 768, 768, 1024, 65535, 65535, 769, 769, 1024, 768, 767, 255]);
     let head = [0x00, 0x00, 0x06, 0x5F, 0x1F, 0x04, 0x00];
     let right = [&[0x01], key, &head, &services, &size.to_be_bytes()].concat();

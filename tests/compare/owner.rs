@@ -7,9 +7,13 @@ use reference::layout::{IN_REGISTER_RIGHT, REGISTER_SIZE};
 use reference::library::Call;
 use reference::meter::{Meter, Register, OWN_NAMES};
 use reference::soundness::MOST_REGISTERS;
+use reference::transfer::Transfer;
 
 /// Any owner's call but a new meter. A meter without registers or columns often gets some, so that rows have cells.
 pub fn call(random: &mut Random, meter: &Meter) -> Call {
+    if meter.transfer != Transfer::Absent && random.percent(60) {
+        return during_transfer(random, meter);
+    }
     match random.below(20) {
         0..=9 if meter.registers.is_empty() => give_registers(random),
         0..=5 if meter.columns.is_empty() => set_columns(random, meter),
@@ -22,6 +26,20 @@ pub fn call(random: &mut Random, meter: &Meter) -> Call {
         15..=16 if meter.is_sound() => Call::Tick(next_due(meter).to_vec()),
         18 if random.percent(60) => set_value(random, meter),
         19 => Call::Tick(clock(random, meter)),
+        _ => Call::PowerUp,
+    }
+}
+
+/// While there is a transfer: the calls that end it, and each other one.
+fn during_transfer(random: &mut Random, meter: &Meter) -> Call {
+    match random.below(12) {
+        0..=2 => give_registers(random),
+        3..=4 => set_columns(random, meter),
+        5 => Call::SetColumns(meter.columns.concat()),
+        6..=7 => Call::SetPeriod(random.pick(&PERIODS)),
+        8 => set_value(random, meter),
+        9 => Call::SetP5(random.pick(&[0, 1])),
+        10 => Call::Tick(clock(random, meter)),
         _ => Call::PowerUp,
     }
 }

@@ -6,7 +6,7 @@ use crate::opening;
 use crate::random::Random;
 use crate::ranges::range;
 use crate::states::{counter, is_near_end, object};
-use crate::values::{entries, value};
+use crate::values::{entries, rows_that_fit, value};
 use reference::acse::RELEASE_REQUEST;
 use reference::aes::Block;
 use reference::bytes::part;
@@ -14,6 +14,8 @@ use reference::envelope::Sender;
 use reference::frame::{DATA, HAN, LINK_DOWN, LINK_UP, REQUEST_LLC, VERIFICATION};
 use reference::meter::{Ciphered, Meter, Plain, CHALLENGE, DEVICE_NAME, PROFILE, RECORD_NUMBER};
 use reference::request::Name;
+use reference::soundness::OFFERED_CIPHERED;
+use reference::transfer::Transfer;
 
 const GET: u8 = 0xC0;
 const ACTION: u8 = 0xC3;
@@ -80,6 +82,7 @@ impl Player<'_> {
             0 => self.stray_apdu(),
             1 => self.release(),
             2..=17 if associated => self.request(GET, Some(DEVICE_NAME)),
+            18 if associated && self.random.percent(40) => self.next_block(),
             18 if associated => self.request(GET, None),
             _ => {
                 let title = self.meter.verification.title;
@@ -95,12 +98,58 @@ impl Player<'_> {
             Ciphered::Absent if choice < 90 => self.han_opening(),
             Ciphered::Pending { .. } if choice < 80 => self.challenge_answer(),
             Ciphered::Pending { .. } if choice < 84 => self.release(),
-            Ciphered::Associated { agreed, .. } if agreed[2] != 0x15 && choice < 20 => self.release(),
+            Ciphered::Associated { agreed, .. } if agreed != OFFERED_CIPHERED && choice < 12 => self.release(),
+            Ciphered::Associated { key, .. } if choice < self.share_of_blocks() => self.sealed_block_request(key),
             Ciphered::Associated { key, .. } if choice < 82 => self.sealed_request(0xD0, key, GET),
             Ciphered::Associated { key, .. } if choice < 94 => self.sealed_request(0xD3, key, ACTION),
             Ciphered::Associated { .. } if choice < 96 => self.release(),
             _ => self.untimely(),
         }
+    }
+
+    /// How many of a hundred APDUs ask for blocks, less the first few: more where one can be had, or was lost.
+    fn share_of_blocks(&self) -> usize {
+        match self.meter.transfer {
+            Transfer::Absent => 16,
+            Transfer::Running { .. } => 50,
+            Transfer::Ended => 36,
+        }
+    }
+
+    fn is_running(&self) -> bool {
+        matches!(self.meter.transfer, Transfer::Running { .. })
+    }
+
+    /// Whether the rows do not fit one frame, and no transfer stands.
+    fn is_long(&self) -> bool {
+        self.meter.transfer == Transfer::Absent
+            && rows_that_fit(self.meter.columns.len()) < self.meter.rows.len() as u32
+    }
+
+    fn sealed_block_request(&mut self, key: Block) -> Vec<u8> {
+        let plain = self.next_block();
+        let counter = self.next_counter();
+        self.sealed(0xD0, key, counter, &plain)
+    }
+
+    /// A request for a block: most times behind the one sent last, seldom with a byte too many or too few.
+    fn next_block(&mut self) -> Vec<u8> {
+        let last = match self.meter.transfer {
+            Transfer::Running { block, .. } => block,
+            _ => self.random.pick(&[0, 1, 1, 2, 3]),
+        };
+        let any = self.random.number32();
+        let beside = self.random.pick(&[last.wrapping_add(1), last.saturating_sub(1), last ^ 1 << 8, last ^ 1 << 31]);
+        let wrong = self.random.pick(&[0, beside, beside, u32::MAX, any]);
+        let number = if self.random.percent(80) { last } else { wrong };
+        let invoke = self.random.pick(&[0xC1, 0x81, 0x00, any as u8]);
+        let mut plain = [&[GET, 0x02, invoke], &number.to_be_bytes()[..]].concat();
+        match self.random.below(40) {
+            0 => plain.push(0),
+            1 => drop(plain.pop()),
+            _ => {}
+        }
+        plain
     }
 
     /// H's messages whatever state it is in.
@@ -199,8 +248,9 @@ impl Player<'_> {
     fn request(&mut self, service: u8, wanted: Option<Name>) -> Vec<u8> {
         let (name, class) = match wanted {
             Some(name) => (name, 1),
+            None if service == ACTION && self.is_running() && self.random.percent(30) => (PROFILE, 7),
             None if service == ACTION && self.random.percent(60) => (RECORD_NUMBER, 3),
-            None if service == GET && self.random.percent(30) => (PROFILE, 7),
+            None if service == GET && self.random.percent(if self.is_long() { 60 } else { 30 }) => (PROFILE, 7),
             None => object(self.random, self.meter),
         };
         let any = self.random.byte();

@@ -34,7 +34,7 @@ pub fn range(random: &mut Random, meter: &Meter) -> Vec<u8> {
 }
 
 /// From and to: on each side of a kept clock, from one kept clock to another, around all of them, or anywhere.
-fn ends(random: &mut Random, meter: &Meter) -> (Clock, Clock) {
+pub fn ends(random: &mut Random, meter: &Meter) -> (Clock, Clock) {
     let (one, other) = (kept(random, meter), kept(random, meter));
     let (early, late) = if moment(&one) <= moment(&other) { (one, other) } else { (other, one) };
     let clocks = || meter.rows.iter().map(|row| row.clock);

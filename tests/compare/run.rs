@@ -13,7 +13,7 @@ use reference::frame::LONGEST_FRAME;
 use reference::image::SIZE;
 use reference::library::{Call, State};
 use reference::meter::Meter;
-use reference::soundness::CLAUSES;
+use reference::soundness::{CLAUSES, TRANSFER_CLAUSES};
 
 /// How many frames a scenario remembers, to send them again.
 const REMEMBERED: usize = 6;
@@ -69,7 +69,7 @@ impl Run {
 
     fn scenario(&mut self) -> Scenario {
         let random = &mut self.random;
-        let (image, steps) = match random.below(20) {
+        let (image, steps) = match random.below(33) {
             0..=1 => (states::refused(random), 5),
             2..=6 => {
                 let clause = random.pick(&CLAUSES);
@@ -80,9 +80,17 @@ impl Run {
                 let meter = states::readable(random);
                 (states::image(random, &meter), 40)
             }
-            11..=14 => {
+            11..=16 => {
                 let meter = states::at_overflow(random);
                 (states::image(random, &meter), 8)
+            }
+            17..=18 => {
+                let clause = random.pick(&TRANSFER_CLAUSES);
+                (states::unsound_transfer(random, clause), 6)
+            }
+            19..=26 => {
+                let meter = states::long(random);
+                (states::image(random, &meter), random.pick(&[10, 20, 40]))
             }
             _ => {
                 let meter = states::sound(random);
@@ -103,7 +111,8 @@ impl Run {
             let compared = scenario.bench.call(&mut self.random, &call);
             let agreement =
                 compared.map_err(|told| format!("{told}\nnumber of the call: {}", self.statistics.calls + 1))?;
-            self.statistics.add(&call, &before, &agreement.outcome, agreement.explanation);
+            let states = (&before, &scenario.bench.state);
+            self.statistics.add(&call, states, &agreement.outcome, agreement.explanation);
             if let Some(meter) = before.meter() {
                 self.samples.add(&call, meter, &agreement.outcome, &agreement.room);
             }

@@ -1,13 +1,16 @@
 //! States handed in: sound ones with everything that a meter can hold, unsound ones by each clause, and buffers that are
-//! no state. Names come from a small pool, so that lists meet.
+//! no state; transfers among them. Names come from a small pool, so that lists meet.
 
 use crate::random::Random;
+use crate::ranges::ends;
 use reference::clock::{days_in, is_due, moment, Clock};
 use reference::image::{self, SIZE};
 use reference::layout;
 use reference::meter::{self, Ciphered, Han, Meter, Plain, Register, Row, Verification, MOST_ROWS, OWN_NAMES};
+use reference::objects::{Selection, WHOLE_ROWS};
 use reference::request::Name;
 use reference::soundness::{agreed, Clause, MOST_COLUMNS, MOST_REGISTERS, OFFERED_CIPHERED, OFFERED_PLAIN};
+use reference::transfer::Transfer;
 
 pub const PERIODS: [u32; 16] = [30, 60, 90, 120, 150, 180, 240, 300, 360, 450, 600, 720, 900, 1200, 1800, 3600];
 
@@ -161,9 +164,10 @@ pub fn is_near_end(counter: u32) -> bool {
 }
 
 fn services(random: &mut Random, offered: [u8; 3]) -> [u8; 3] {
-    match random.percent(75) {
-        true => offered,
-        false => agreed(random.array(), offered),
+    match random.below(20) {
+        0..=12 => offered,
+        13..=14 => agreed([0, 0, 0xFF], offered),
+        _ => agreed(random.array(), offered),
     }
 }
 
@@ -205,7 +209,7 @@ pub fn sound(random: &mut Random) -> Meter {
     let any = random.between(0, MOST_ROWS);
     let row_count = random.pick(&[0, 1, 10, any, any, MOST_ROWS - 1, MOST_ROWS, MOST_ROWS]);
     let rows = rows(random, period, record_number, columns.len(), row_count);
-    Meter {
+    let mut meter = Meter {
         title: random.field(),
         verification: verification(random),
         han: han(random),
@@ -217,6 +221,37 @@ pub fn sound(random: &mut Random) -> Meter {
         registers,
         columns,
         rows,
+        transfer: Transfer::Absent,
+    };
+    meter.transfer = transfer(random, &meter);
+    meter
+}
+
+/// A transfer that this meter may hold.
+fn transfer(random: &mut Random, meter: &Meter) -> Transfer {
+    let mut held = meter.clone();
+    for _ in 0..6 {
+        held.transfer = any_transfer(random, meter);
+        if held.is_sound() {
+            return held.transfer;
+        }
+    }
+    Transfer::Absent
+}
+
+/// Any transfer, most times one that a meter with many rows can hold.
+fn any_transfer(random: &mut Random, meter: &Meter) -> Transfer {
+    let (from, to) = ends(random, meter);
+    let entries = (random.pick(&[1, 1, 2, 3]), random.pick(&[0, 0, 14, 15, 16, u32::MAX]));
+    let selection = match random.below(4) {
+        0..=1 => None,
+        2 => Some(Selection::Range { from, to }),
+        _ => Some(Selection::Entries { from: entries.0, to: entries.1, columns: WHOLE_ROWS }),
+    };
+    match random.below(6) {
+        0 => Transfer::Absent,
+        1 => Transfer::Ended,
+        _ => Transfer::Running { selection, block: random.pick(&[1, 1, 2]) },
     }
 }
 
@@ -247,8 +282,28 @@ pub fn readable(random: &mut Random) -> Meter {
     meter.columns = columns(random, &meter.registers, column_count);
     let row_count = random.between(0, MOST_ROWS);
     meter.rows = rows(random, meter.period, meter.record_number, column_count, row_count);
+    associate(random, &mut meter, OFFERED_CIPHERED);
+    meter
+}
+
+/// H is associated for these services, perhaps with a transfer.
+fn associate(random: &mut Random, meter: &mut Meter, agreed: [u8; 3]) {
     meter.han.linked = true;
-    meter.han.association = Ciphered::Associated { agreed: OFFERED_CIPHERED, key: random.field() };
+    meter.han.association = Ciphered::Associated { agreed, key: random.field() };
+    meter.transfer = Transfer::Absent;
+    meter.transfer = transfer(random, meter);
+}
+
+/// A sound meter with H associated whose rows take two blocks or three; seldom a service is not agreed.
+pub fn long(random: &mut Random) -> Meter {
+    let all = OFFERED_CIPHERED;
+    let agreed = random.pick(&[all, all, all, all, all, [0, 0x10, 0x14], [0, 0x10, 0x11], [0, 0, 0x15]]);
+    let mut meter = readable(random);
+    let column_count = random.pick(&[MOST_COLUMNS, MOST_COLUMNS, MOST_COLUMNS, MOST_COLUMNS, 15, 12, 10, 7]);
+    meter.columns = columns(random, &meter.registers, column_count);
+    let row_count = random.pick(&[MOST_ROWS, MOST_ROWS, MOST_ROWS, MOST_ROWS, 14, 13]);
+    meter.rows = rows(random, meter.period, meter.record_number, column_count, row_count);
+    associate(random, &mut meter, agreed);
     meter
 }
 
@@ -259,6 +314,7 @@ pub fn at_overflow(random: &mut Random) -> Meter {
     if random.percent(70) {
         let (key, client_challenge, meter_challenge) = (random.field(), random.field(), random.field());
         meter.han.association = Ciphered::Pending { agreed: OFFERED_CIPHERED, key, client_challenge, meter_challenge };
+        meter.transfer = Transfer::Absent;
     }
     meter
 }
@@ -271,6 +327,9 @@ pub fn image(random: &mut Random, meter: &Meter) -> Vec<u8> {
     };
     for place in image::flag_places() {
         filling[place] &= 1;
+    }
+    for place in image::CHOICE_PLACES {
+        filling[place] %= 3;
     }
     image::write(meter, &filling)
 }
@@ -343,18 +402,18 @@ fn spoil_lists(random: &mut Random, meter: &mut Meter, clause: Clause) {
 
 fn spoil_line(random: &mut Random, meter: &mut Meter, clause: Clause) {
     let (v, h) = (&mut meter.verification, &mut meter.han);
-    let beyond = random.pick(&[[0, 0, 0x02], [0, 0, 0x08], [0, 0x10, 0], [0x80, 0, 0], [0, 0, 0xFF], [0, 0, 0x40]]);
+    let beyond = random.pick(&[[0, 0, 0x02], [0, 0, 0x08], [0, 0x20, 0], [0x80, 0, 0], [0, 0x10, 0xFF], [0, 0, 0x40]]);
     let key = random.array();
     let (client_challenge, meter_challenge) = (random.array(), random.array());
     match clause {
         Clause::VerificationKind => (v.linked, v.association) = (true, Plain::Pending),
         Clause::VerificationWithoutLink => (v.linked, v.association) = (false, Plain::Associated([0, 0, 0x10])),
         Clause::VerificationServices => {
-            let services = random.pick(&[beyond, [0, 0, 0x15], [0, 0, 0x01]]);
+            let services = random.pick(&[beyond, [0, 0x10, 0x14], [0, 0, 0x15], [0, 0, 0x01]]);
             (v.linked, v.association) = (true, Plain::Associated(services));
         }
         Clause::HanWithoutLink => {
-            (h.linked, h.association) = (false, Ciphered::Associated { agreed: [0, 0, 0x15], key })
+            (h.linked, h.association) = (false, Ciphered::Associated { agreed: OFFERED_CIPHERED, key })
         }
         Clause::HanServices if random.percent(50) => {
             (h.linked, h.association) = (true, Ciphered::Associated { agreed: beyond, key })
@@ -367,19 +426,109 @@ fn spoil_line(random: &mut Random, meter: &mut Meter, clause: Clause) {
     }
 }
 
-/// A buffer that is no state: another size, another version, a wrong flag, a wrong phase.
+/// An image with a transfer that fails this clause.
+pub fn unsound_transfer(random: &mut Random, clause: Clause) -> Vec<u8> {
+    let mut meter = long(random);
+    if clause == Clause::TransferShort && random.percent(60) {
+        fill_one_frame(random, &mut meter);
+    }
+    associate(random, &mut meter, OFFERED_CIPHERED);
+    let selection = spoiled_selection(random, &meter, clause);
+    let any = random.number32();
+    let block = match clause {
+        Clause::TransferBlockZero => 0,
+        Clause::TransferBlockBeyond => random.pick(&[3, 3, 3, 4, 257, 65538, 1 << 24 | 1, 1 << 31, u32::MAX, any | 4]),
+        Clause::TransferShort => 1,
+        _ => random.pick(&[1, 1, 2]),
+    };
+    meter.transfer = Transfer::Running { selection, block };
+    spoil_holder(random, &mut meter, clause);
+    image(random, &meter)
+}
+
+/// What a transfer is of: all rows in one way or another, or what fails this clause.
+fn spoiled_selection(random: &mut Random, meter: &Meter, clause: Clause) -> Option<Selection> {
+    let (from, to) = wide(meter);
+    let range = Some(Selection::Range { from, to });
+    let entries = |from, to| Some(Selection::Entries { from, to, columns: WHOLE_ROWS });
+    match clause {
+        Clause::TransferWithoutSelection => random.pick(&[range, entries(1, 0)]),
+        Clause::TransferClock | Clause::TransferRange => spoiled_range(random, clause, from, to),
+        Clause::TransferEntries => wrong_entries(random, meter.rows.len() as u32),
+        Clause::TransferShort if meter.columns.len() > LAST_IN_ONE_FRAME => {
+            random.pick(&[entries(1, 2), entries(9, 0)])
+        }
+        _ => random.pick(&[None, range, entries(1, 0)]),
+    }
+}
+
+/// With so many columns fifteen rows go in one frame: 737 bytes, which are more than one block has.
+const LAST_IN_ONE_FRAME: usize = 6;
+
+/// The longest rows that are no transfer.
+fn fill_one_frame(random: &mut Random, meter: &mut Meter) {
+    meter.columns = columns(random, &meter.registers, LAST_IN_ONE_FRAME);
+    meter.rows = rows(random, meter.period, meter.record_number, LAST_IN_ONE_FRAME, MOST_ROWS);
+}
+
+/// A range that has every row of the meter.
+fn wide(meter: &Meter) -> (Clock, Clock) {
+    let clocks = || meter.rows.iter().map(|row| row.clock);
+    let first = clocks().min_by_key(moment).unwrap_or(meter.clock);
+    let last = clocks().max_by_key(moment).unwrap_or(meter.clock);
+    (shifted(&first, -1), shifted(&last, 1))
+}
+
+/// A range with an end that is no clock, or with ends that are equal or reversed.
+fn spoiled_range(random: &mut Random, clause: Clause, from: Clock, to: Clock) -> Option<Selection> {
+    let (no_from, no_to) = (broken(random, from), broken(random, to));
+    let (from, to) = match clause {
+        Clause::TransferClock => random.pick(&[(no_from, to), (from, no_to), (no_from, no_to)]),
+        _ => random.pick(&[(to, from), (to, to), (shifted(&to, 1), to)]),
+    };
+    Some(Selection::Range { from, to })
+}
+
+/// Entries that a profile with so many rows denies.
+fn wrong_entries(random: &mut Random, rows: u32) -> Option<Selection> {
+    let (from, to) = random.pick(&[(0, 0), (0, 9), (rows + 1, 0), (u32::MAX, 0), (2, 1), (rows, 1), (rows, rows - 1)]);
+    Some(Selection::Entries { from, to, columns: WHOLE_ROWS })
+}
+
+/// H's association is not one that a transfer can have; of those that have no part in its read it may have ended.
+fn spoil_holder(random: &mut Random, meter: &mut Meter, clause: Clause) {
+    let (key, client_challenge, meter_challenge) = (random.field(), random.field(), random.field());
+    let agreed = match clause {
+        Clause::TransferWithoutHan => {
+            let pending = Ciphered::Pending { agreed: OFFERED_CIPHERED, key, client_challenge, meter_challenge };
+            meter.han.association = random.pick(&[Ciphered::Absent, pending]);
+            meter.transfer = random.pick(&[meter.transfer.clone(), Transfer::Ended]);
+            return;
+        }
+        Clause::TransferWithoutGet => random.pick(&[[0, 0x10, 0x05], [0, 0x10, 0x04], [0, 0x10, 0]]),
+        Clause::TransferWithoutBlocks => random.pick(&[[0, 0, 0x15], [0, 0, 0x14], [0, 0, 0x10]]),
+        Clause::TransferWithoutSelection => random.pick(&[[0, 0x10, 0x11], [0, 0x10, 0x10]]),
+        _ => return,
+    };
+    meter.han.association = Ciphered::Associated { agreed, key };
+    if clause != Clause::TransferWithoutSelection && random.percent(40) {
+        meter.transfer = Transfer::Ended;
+    }
+}
+
+/// A buffer that is no state: another size, another version, a wrong flag, a phase or another choice above its last.
 pub fn refused(random: &mut Random) -> Vec<u8> {
     let meter = sound(random);
     let mut image = image(random, &meter);
     let flags = image::flag_places();
     match random.below(4) {
         0 => {
-            let length = random.pick(&[0, 1, SIZE - 1, SIZE + 1, 2 * SIZE]);
+            let length = random.pick(&[0, 1, SIZE - 1, SIZE + 1, SIZE - layout::TRANSFER_SIZE, 2 * SIZE]);
             image.resize(length, 0);
         }
-        1 => image[0] = random.pick(&[0, 2, 0xFF, 0x81]),
+        1 => image[0] = random.pick(&[0, layout::LAYOUT - 1, layout::LAYOUT + 1, 0xFF, layout::LAYOUT | 0x80]),
         2 => image[flags[random.place(flags.len())]] = random.pick(&[2, 3, 0x80, 0xFF]),
-        _ => image[random.pick(&image::PHASE_PLACES)] = random.pick(&[3, 4, 0x80, 0xFF]),
+        _ => image[random.pick(&image::CHOICE_PLACES)] = random.pick(&[3, 4, 0x80, 0xFF]),
     }
     image
 }

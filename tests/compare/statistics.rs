@@ -1,13 +1,14 @@
-//! What a run met: each number, each event, deep states, rows by date, counters around the overflow, and unsound states by
-//! clause.
+//! What a run met: each number, each event, deep states, rows by date, counters around the overflow, transfers, and unsound states
+//! by clause.
 
 use crate::counters;
+use crate::transfers;
 use reference::clock::moment;
 use reference::explanation::Explanation;
 use reference::library::{Call, State};
 use reference::meter::{Ciphered, Meter, MOST_ROWS};
 use reference::receive::{Outcome, BY_DATE};
-use reference::soundness::{Clause, CLAUSES};
+use reference::soundness::{Clause, CLAUSES, TRANSFER_CLAUSES};
 use std::collections::BTreeMap;
 
 /// Every number that a call can answer.
@@ -27,6 +28,12 @@ pub struct Statistics {
     frames_near_counter_ends: usize,
     by_date_where: BTreeMap<&'static str, usize>,
     counters: counters::Met,
+    transfers: transfers::Met,
+}
+
+/// Every clause of unsoundness.
+fn clauses() -> impl Iterator<Item = Clause> {
+    CLAUSES.into_iter().chain(TRANSFER_CLAUSES)
 }
 
 /// How the clocks of a meter's rows can stand to each other, from one row to the next newer one.
@@ -43,12 +50,21 @@ fn orders(meter: &Meter) -> impl Iterator<Item = &'static str> {
 }
 
 impl Statistics {
-    /// Counts a call by the state before it and what it came to; a frame call has an explanation.
-    pub fn add(&mut self, call: &Call, before: &State, outcome: &Outcome, explanation: Option<Explanation>) {
+    /// Counts a call by the states before and after it and what it came to; a frame call has an explanation.
+    pub fn add(
+        &mut self,
+        call: &Call,
+        (before, after): (&State, &State),
+        outcome: &Outcome,
+        explanation: Option<Explanation>,
+    ) {
         self.calls += 1;
         *self.numbers.entry(outcome.number).or_default() += 1;
         *self.events.entry((outcome.number, outcome.event)).or_default() += 1;
         let Some(meter) = before.meter() else { return };
+        if let Some(after) = after.meter() {
+            self.transfers.add((&meter.transfer, &after.transfer), call, outcome);
+        }
         for clause in meter.faults() {
             *self.unsound.entry(clause).or_default() += 1;
         }
@@ -76,10 +92,11 @@ impl Statistics {
         println!("{:>9}  frame calls with fifteen rows", self.frames_with_all_rows);
         println!("{:>9}  frame calls with a counter within 200 of an end", self.frames_near_counter_ends);
         self.counters.print();
+        self.transfers.print();
         for (order, count) in &self.by_date_where {
             println!("{count:>9}  reads of rows by date granted, with {order}");
         }
-        for clause in CLAUSES {
+        for clause in clauses() {
             println!("{:>9}  calls on a state unsound by {clause:?}", self.unsound_by(clause));
         }
     }
@@ -92,16 +109,18 @@ impl Statistics {
         self.events.keys().any(|&(_, met)| met == event)
     }
 
-    /// What never occurred though a run should meet it: numbers, clauses of unsoundness, what rows by date come to, and counters
-    /// around the overflow.
+    /// What never occurred though a run should meet it: numbers, clauses of unsoundness, what rows by date and requests for blocks
+    /// come to, counters around the overflow, and how transfers end.
     pub fn missing(&self) -> Vec<String> {
         let numbers = all_numbers().filter(|number| !self.numbers.contains_key(number));
-        let clauses = CLAUSES.into_iter().filter(|&clause| self.unsound_by(clause) == 0);
-        let by_date = BY_DATE.into_iter().filter(|event| !self.met(event)).map(String::from);
+        let clauses = clauses().filter(|&clause| self.unsound_by(clause) == 0);
+        let events = BY_DATE.into_iter().chain(transfers::EVENTS.into_iter().flatten().copied());
+        let events = events.filter(|event| !self.met(event)).map(String::from);
         let orders = ORDERS.into_iter().filter(|order| !self.by_date_where.contains_key(order));
         let numbers = numbers.map(|number| format!("number {number}"));
         let clauses = clauses.map(|clause| format!("a state unsound by {clause:?}"));
         let orders = orders.map(|order| format!("rows by date with {order}"));
-        numbers.chain(clauses).chain(by_date).chain(orders).chain(self.counters.missing()).collect()
+        let others = self.counters.missing().chain(self.transfers.missing());
+        numbers.chain(clauses).chain(events).chain(orders).chain(others).collect()
     }
 }

@@ -108,7 +108,7 @@ fn chain(random: &mut Random) -> Vec<u8> {
 }
 
 /// How many rows of so many columns an answer of 740 bytes holds.
-fn rows_that_fit(columns: usize) -> u32 {
+pub fn rows_that_fit(columns: usize) -> u32 {
     ((740 - 2) / (19 + 5 * columns)) as u32
 }
 

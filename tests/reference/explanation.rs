@@ -1,19 +1,21 @@
-//! Why a frame call is refused (change request Q-2): the tests of document 01 in its order, each by a name and with a
+//! Why a frame call is refused (change request Q-2): the tests of documents 01 and 02 in their order, each by a name and with a
 //! condition of its own. The first that fails is the explanation; the frame call is not asked.
 
 use crate::frame::{DATA, FLAG, HAN, LINK_DOWN, LINK_UP, LONGEST_FRAME, LONGEST_L, METER, REQUEST_LLC, VERIFICATION};
 use crate::given::Given;
 use crate::meter::Meter;
 use crate::objects::{Selection, ROOM};
-use crate::receive::{Lent, KNOWN_TAGS};
+use crate::receive::{has, Lent, BLOCK_BIT, KNOWN_TAGS};
 use crate::soundness::Clause::*;
+use crate::soundness::TRANSFER_CLAUSES;
+use crate::transfer::Transfer;
 use std::fmt;
 
 /// The refusal where a test fails, its name, and when it fails. What a test looks at is there once those before it passed.
 type Test = (u8, &'static str, fn(&Given) -> bool);
 
 /// "What goes out": a frame call tests 1, 2, 3, then the frame, then what it asks for.
-pub const TESTS: [Test; 53] = [
+pub const TESTS: [Test; 57] = [
     (1, "reply-room", |given| given.lent.room < LONGEST_FRAME),
     (2, "GUK-length", |given| given.lent.guk.len() != 16),
     (2, "AK-length", |given| given.lent.authentication.len() != 16),
@@ -29,6 +31,7 @@ pub const TESTS: [Test; 53] = [
     (3, "association-kind", |given| given.is_unsound(&[VerificationKind])),
     (3, "association-without-link", |given| given.is_unsound(&[VerificationWithoutLink, HanWithoutLink])),
     (3, "agreed-services", |given| given.is_unsound(&[VerificationServices, HanServices])),
+    (3, "transfer", |given| given.is_unsound(&TRANSFER_CLAUSES)),
     // "The frame is tested in this order."
     (4, "short-frame", |given| given.bytes.len() < 9),
     (4, "flag-missing", |given| !(given.bytes.starts_with(&[FLAG]) && given.bytes.ends_with(&[FLAG]))),
@@ -55,7 +58,7 @@ pub const TESTS: [Test; 53] = [
     // "The association", "The envelope and its counters"
     (12, "unknown-tag", |given| given.tag().is_some_and(|tag| !KNOWN_TAGS.contains(&tag))),
     (12, "tag-not-permitted", |given| given.tag().is_some_and(|tag| !given.permitted().contains(&tag))),
-    (12, "bit-not-agreed", |given| given.needed_bit() & !given.agreed() != 0),
+    (12, "bit-not-agreed", |given| !has(given.agreed(), given.needed_bit())),
     (11, "AARQ-not-accepted", |given| given.tag() == Some(0x60) && !given.is_aarq()),
     (6, "envelope-shape", |given| given.is_sealed() && given.envelope().is_none()),
     (6, "envelope-tag", |given| given.is_sealed() && given.opened().is_none()),
@@ -72,7 +75,16 @@ pub const TESTS: [Test; 53] = [
         matches!(given.selection(), Some(Selection::Entries { .. })) && given.rows().is_none()
     }),
     (13, "range-wrong", |given| matches!(given.selection(), Some(Selection::Range { .. })) && given.rows().is_none()),
-    (13, "answer-too-long", |given| given.data().is_some_and(|data| data.bytes().len() > ROOM)),
+    (13, "answer-too-long", |given| {
+        !has(given.agreed(), BLOCK_BIT) && given.data().is_some_and(|data| data.bytes().len() > ROOM)
+    }),
+    // "Refusals of a numbered request .. in this order"
+    (13, "transfer-ended", |given| given.next().is_some() && given.meter.transfer == Transfer::Ended),
+    (13, "no-transfer", |given| given.next().is_some() && given.meter.transfer == Transfer::Absent),
+    (13, "block-number", |given| {
+        let Transfer::Running { block, .. } = given.meter.transfer else { return false };
+        given.next().is_some_and(|next| next.number != block)
+    }),
 ];
 
 /// The number of a frame call, the test that fails, and for refusals 4 and 9 the first byte of the failing field.

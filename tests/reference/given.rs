@@ -1,14 +1,14 @@
 //! All that a frame call is given, and what can be read of it once so many tests have passed: the fields of the frame, then
 //! its APDU, then the envelope, then the request.
 
-use crate::acse::{self, RELEASE_REQUEST};
+use crate::acse::{self, Services, RELEASE_REQUEST};
 use crate::check::sent_check;
 use crate::envelope::{Envelope, Sender};
 use crate::frame::{DATA, HAN, REQUEST_LLC};
 use crate::meter::{Ciphered, Meter, Plain, Row};
 use crate::objects::{self, Object, Selection};
-use crate::receive::{self, Keys, Lent, ACTION_BIT, GET_BIT, SELECTIVE_BIT};
-use crate::request::{self, Action, Get, Target};
+use crate::receive::{self, has, Keys, Lent, ACTION_BIT, BLOCK_BIT, GET_BIT, SELECTIVE_BIT};
+use crate::request::{self, Action, Get, Next, Target};
 use crate::soundness::Clause;
 use crate::value::Value;
 use std::cell::OnceCell;
@@ -87,20 +87,20 @@ impl<'a> Given<'a> {
     }
 
     /// The service bit without which GET and ACTION are not permitted; the challenge needs none.
-    pub fn needed_bit(&self) -> u8 {
+    pub fn needed_bit(&self) -> Services {
         match self.tag() {
             Some(0xC0 | 0xD0) => GET_BIT,
             Some(0xD3) => ACTION_BIT,
-            _ => 0,
+            _ => [0; 3],
         }
     }
 
-    /// The last byte of the services that are agreed: the others offer nothing.
-    pub fn agreed(&self) -> u8 {
+    /// The services that are agreed.
+    pub fn agreed(&self) -> Services {
         match (self.is_han(), &self.meter.verification.association, &self.meter.han.association) {
-            (false, Plain::Associated(agreed), _) => agreed[2],
-            (true, _, Ciphered::Associated { agreed, .. }) => agreed[2],
-            _ => 0,
+            (false, Plain::Associated(agreed), _) => *agreed,
+            (true, _, Ciphered::Associated { agreed, .. }) => *agreed,
+            _ => [0; 3],
         }
     }
 
@@ -156,6 +156,12 @@ impl<'a> Given<'a> {
         request::read_get(text)
     }
 
+    /// H's request for the next block, where blocks are agreed.
+    pub fn next(&self) -> Option<Next> {
+        let text = self.text().filter(|_| self.tag() == Some(0xD0) && has(self.agreed(), BLOCK_BIT))?;
+        request::read_next(text)
+    }
+
     fn action(&self) -> Option<Action> {
         let text = self.text().filter(|_| matches!(self.tag(), Some(0xCB | 0xD3)))?;
         request::read_action(text)
@@ -164,7 +170,7 @@ impl<'a> Given<'a> {
     pub fn is_malformed(&self) -> bool {
         match self.tag() {
             Some(0x62) => self.text() != Some(&RELEASE_REQUEST),
-            Some(0xC0 | 0xD0) => self.get().is_none(),
+            Some(0xC0 | 0xD0) => self.get().is_none() && self.next().is_none(),
             Some(0xCB | 0xD3) => self.action().is_none(),
             _ => false,
         }
@@ -224,7 +230,7 @@ impl<'a> Given<'a> {
     /// What rows are asked for, where a selector belongs and has its shape.
     pub fn selection(&self) -> Option<Selection> {
         let get = self.get().filter(|get| objects::is_of_rows(&get.target))?;
-        let selective = self.is_han() && self.agreed() & SELECTIVE_BIT != 0;
+        let selective = self.is_han() && has(self.agreed(), SELECTIVE_BIT);
         get.selector.filter(|_| selective).and_then(|selector| Selection::of(&selector))
     }
 

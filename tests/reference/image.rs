@@ -5,7 +5,9 @@
 use crate::bytes::Reader;
 use crate::layout::*;
 use crate::meter::{Ciphered, Han, Meter, Plain, Register, Row, Verification};
+use crate::objects::{Selection, WHOLE_ROWS};
 use crate::request::Name;
+use crate::transfer::Transfer;
 
 pub const SIZE: usize = STATE_SIZE;
 
@@ -20,8 +22,13 @@ pub fn flag_places() -> Vec<usize> {
     [AT_V + IN_CLIENT_LINK, AT_H + IN_CLIENT_LINK, AT_P5].into_iter().chain(rights).collect()
 }
 
-/// The places of the two phases.
-pub const PHASE_PLACES: [usize; 2] = [AT_V + IN_CLIENT_PHASE, AT_H + IN_CLIENT_PHASE];
+/// The places of what is 0, 1 or 2: the two phases, and state and selector of a transfer.
+pub const CHOICE_PLACES: [usize; 4] = [
+    AT_V + IN_CLIENT_PHASE,
+    AT_H + IN_CLIENT_PHASE,
+    AT_TRANSFER + IN_TRANSFER_STATE,
+    AT_TRANSFER + IN_TRANSFER_SELECTOR,
+];
 
 /// The meter of a buffer, or the refusal by which the buffer is none.
 pub fn read(image: &[u8]) -> Result<Meter, u8> {
@@ -32,8 +39,8 @@ pub fn read(image: &[u8]) -> Result<Meter, u8> {
         return Err(WRONG_VERSION);
     }
     let flags = flag_places().iter().all(|&place| image[place] <= 1);
-    let phases = PHASE_PLACES.iter().all(|&place| image[place] <= 2);
-    if !flags || !phases {
+    let choices = CHOICE_PLACES.iter().all(|&place| image[place] <= 2);
+    if !flags || !choices {
         return Err(NO_STATE);
     }
     Ok(meter(&mut Reader::new(&image[1..])).expect("an image of the right size has every field"))
@@ -55,6 +62,7 @@ fn meter(reader: &mut Reader) -> Option<Meter> {
         registers: list(reader, REGISTERS, register)?,
         columns: list(reader, COLUMNS, Reader::array)?,
         rows: list(reader, ROWS, row)?,
+        transfer: transfer(reader)?,
     })
 }
 
@@ -103,6 +111,24 @@ fn row(reader: &mut Reader) -> Option<Row> {
     Some(Row { number: reader.number16()?, clock: reader.array()?, cells: list(reader, CELLS, Reader::number32)? })
 }
 
+/// What a transfer holds: where it runs the block, and of clocks and entries those that its selector means.
+fn transfer(reader: &mut Reader) -> Option<Transfer> {
+    let (state, selector) = (reader.byte()?, reader.byte()?);
+    let range = Selection::Range { from: reader.array()?, to: reader.array()? };
+    let entries = Selection::Entries { from: reader.number32()?, to: reader.number32()?, columns: WHOLE_ROWS };
+    let block = reader.number32()?;
+    let selection = match selector {
+        0 => None,
+        1 => Some(range),
+        _ => Some(entries),
+    };
+    Some(match state {
+        0 => Transfer::Absent,
+        1 => Transfer::Running { selection, block },
+        _ => Transfer::Ended,
+    })
+}
+
 /// A count and an array that is there in full: the items that are counted, and the last one again for a count above.
 fn list<'a, T: Clone>(
     reader: &mut Reader<'a>,
@@ -130,6 +156,7 @@ pub fn write(meter: &Meter, filling: &[u8]) -> Vec<u8> {
     put(AT_PERIOD, &meter.period.to_be_bytes());
     put(AT_RECORD_NUMBER, &meter.record_number.to_be_bytes());
     put_lists(meter, &mut put);
+    put_transfer(&meter.transfer, &mut put);
     image
 }
 
@@ -188,6 +215,37 @@ fn put_lists(meter: &Meter, put: &mut impl FnMut(usize, &[u8])) {
         put(at + IN_ROW_CELL_COUNT, &count(row.cells.len()));
         for (j, cell) in row.cells.iter().enumerate() {
             put(at + in_row_cell(j), &cell.to_be_bytes());
+        }
+    }
+}
+
+fn put_transfer(transfer: &Transfer, put: &mut impl FnMut(usize, &[u8])) {
+    let state = match transfer {
+        Transfer::Absent => 0,
+        Transfer::Running { selection, block } => {
+            put(AT_TRANSFER + IN_TRANSFER_BLOCK, &block.to_be_bytes());
+            let selector = put_selection(selection, put);
+            put(AT_TRANSFER + IN_TRANSFER_SELECTOR, &[selector]);
+            1
+        }
+        Transfer::Ended => 2,
+    };
+    put(AT_TRANSFER + IN_TRANSFER_STATE, &[state]);
+}
+
+/// The number of the selector, whose ends then stand in their places.
+fn put_selection(selection: &Option<Selection>, put: &mut impl FnMut(usize, &[u8])) -> u8 {
+    match selection {
+        None => 0,
+        Some(Selection::Range { from, to }) => {
+            put(AT_TRANSFER + IN_TRANSFER_FROM_CLOCK, from);
+            put(AT_TRANSFER + IN_TRANSFER_TO_CLOCK, to);
+            1
+        }
+        Some(Selection::Entries { from, to, .. }) => {
+            put(AT_TRANSFER + IN_TRANSFER_FROM_ENTRY, &from.to_be_bytes());
+            put(AT_TRANSFER + IN_TRANSFER_TO_ENTRY, &to.to_be_bytes());
+            2
         }
     }
 }

@@ -24,4 +24,5 @@ pub mod objects;
 pub mod receive;
 pub mod request;
 pub mod soundness;
+pub mod transfer;
 pub mod value;

@@ -77,7 +77,7 @@ fn refused_event(refusal: u8) -> &'static str {
     match refusal {
         WRONG_SIZE => "state buffer of another size",
         WRONG_VERSION => "state buffer of another version",
-        NO_STATE => "state buffer with a wrong flag or phase",
+        NO_STATE => "state buffer with a byte that no meter has",
         _ => "argument wrong",
     }
 }

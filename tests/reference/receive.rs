@@ -1,27 +1,39 @@
-//! The frame call (document 01, "What goes out" to "The envelope and its counters"): what a received frame comes to,
-//! what goes out and what the meter then holds.
+//! The frame call (document 01, "What goes out" to "The envelope and its counters"; change request Q-4): what a received frame
+//! comes to, what goes out and what the meter then holds.
 
 use crate::acse::{self, Services, RELEASE_REQUEST, RELEASE_RESPONSE};
 use crate::aes::Block;
 use crate::envelope::{step, Challenge, Sender};
 use crate::frame::{self, Head, Received};
 use crate::meter::{Ciphered, Meter, Plain, CHALLENGE};
-use crate::objects;
-use crate::request::{self, Action, Target};
+use crate::objects::{self, Selection, ROOM, TOO_LONG};
+use crate::request::{self, Action, Get, Next, Target};
 use crate::soundness::{agreed, OFFERED_CIPHERED, OFFERED_PLAIN};
+use crate::transfer::{self, Transfer};
 use crate::value::Value;
 
 pub const KNOWN_TAGS: [u8; 9] = [0x60, 0x62, 0xC0, 0xC1, 0xC3, 0xCB, 0xD0, 0xD1, 0xD3];
 const NOT_ALLOWED: [u8; 3] = [0xD8, 0x01, 0x01];
 const NOT_SUPPORTED: [u8; 3] = [0xD8, 0x02, 0x02];
 
-pub const GET_BIT: u8 = 0x10;
-pub const SELECTIVE_BIT: u8 = 0x04;
-pub const ACTION_BIT: u8 = 0x01;
+pub const BLOCK_BIT: Services = [0x00, 0x10, 0x00];
+pub const GET_BIT: Services = [0x00, 0x00, 0x10];
+pub const SELECTIVE_BIT: Services = [0x00, 0x00, 0x04];
+pub const ACTION_BIT: Services = [0x00, 0x00, 0x01];
+
+/// Whether these services have the one of this bit.
+pub fn has(services: Services, bit: Services) -> bool {
+    agreed(services, bit) == bit
+}
 
 const WINDOW: u64 = 180;
 const CHALLENGE_CLASS: u16 = 15;
 const WRONG_PROOF: u8 = 250;
+
+/// Result codes of a request for a block.
+const ENDED_MEANWHILE: u8 = 15;
+const NONE_RUNNING: u8 = 16;
+const WRONG_NUMBER: u8 = 19;
 
 /// What the caller lends to a frame call; of the reply room its length.
 pub struct Lent<'a> {
@@ -134,11 +146,17 @@ impl Meter {
     fn set_link(&mut self, han: bool, up: bool) {
         if han {
             self.han.linked = up;
-            self.han.association = Ciphered::Absent;
+            self.end_han();
         } else {
             self.verification.linked = up;
             self.verification.association = Plain::Absent;
         }
+    }
+
+    /// H's association ends, and its transfer is forgotten.
+    fn end_han(&mut self) {
+        self.han.association = Ciphered::Absent;
+        self.transfer = Transfer::Absent;
     }
 
     fn verification_apdu(&mut self, apdu: &[u8]) -> Outcome {
@@ -152,7 +170,7 @@ impl Meter {
                 }
                 outcome
             }
-            (Plain::Associated(agreed), 0xC0) if agreed[2] & GET_BIT != 0 => self.plain_get(apdu),
+            (Plain::Associated(agreed), 0xC0) if has(*agreed, GET_BIT) => self.plain_get(apdu),
             _ => Outcome::exception(NOT_ALLOWED, "tag not permitted"),
         }
     }
@@ -170,7 +188,7 @@ impl Meter {
 
     fn plain_get(&mut self, apdu: &[u8]) -> Outcome {
         let Some(get) = request::read_get(apdu) else {
-            return Outcome::exception(NOT_SUPPORTED, "malformed request of V");
+            return malformed_get(apdu, "malformed request of V");
         };
         let result = objects::plain_read(self, &get);
         let (number, event) = judged(&result, "read of V granted");
@@ -185,15 +203,15 @@ impl Meter {
             Ciphered::Pending { .. } | Ciphered::Associated { .. } if tag == 0x62 => {
                 let outcome = released(apdu);
                 if outcome.number == 0 {
-                    self.han.association = Ciphered::Absent;
+                    self.end_han();
                 }
                 outcome
             }
             Ciphered::Pending { .. } if tag == 0xCB => self.challenge_answered(apdu, keys),
-            Ciphered::Associated { agreed, key } if tag == 0xD0 && agreed[2] & GET_BIT != 0 => {
+            Ciphered::Associated { agreed, key } if tag == 0xD0 && has(agreed, GET_BIT) => {
                 self.sealed_get(apdu, keys, key, agreed)
             }
-            Ciphered::Associated { agreed, key } if tag == 0xD3 && agreed[2] & ACTION_BIT != 0 => {
+            Ciphered::Associated { agreed, key } if tag == 0xD3 && has(agreed, ACTION_BIT) => {
                 self.sealed_action(apdu, keys, key)
             }
             _ => Outcome::exception(NOT_ALLOWED, "tag not permitted"),
@@ -256,7 +274,7 @@ impl Meter {
             return Err(Outcome::silent(6, "envelope does not open"));
         };
         if !self.is_in_window(counter) {
-            self.han.association = Ciphered::Absent;
+            self.end_han();
             return Err(Outcome::silent(7, "counter outside its window"));
         }
         self.han.accepted = counter;
@@ -273,10 +291,21 @@ impl Meter {
             Ok(plain) => plain,
             Err(outcome) => return outcome,
         };
+        let blocks = has(agreed, BLOCK_BIT);
+        if let Some(next) = request::read_next(&plain).filter(|_| blocks) {
+            return self.next_block(&next, keys, key);
+        }
         let Some(get) = request::read_get(&plain) else {
-            return Outcome::exception(NOT_SUPPORTED, "malformed GET of H");
+            return malformed_get(&plain, "malformed GET of H");
         };
-        let result = objects::ciphered_read(self, &get, agreed[2] & SELECTIVE_BIT != 0);
+        self.transfer = Transfer::Absent;
+        let mut result = objects::ciphered_read(self, &get, has(agreed, SELECTIVE_BIT));
+        if result.as_ref().is_ok_and(|value| value.bytes().len() > ROOM) {
+            if blocks {
+                return self.first_block(&get, keys, key);
+            }
+            result = Err(TOO_LONG);
+        }
         let answer = request::get_answer(get.target.invoke, &result);
         let verdict = match get.selector {
             None => judged(&result, "read of H granted"),
@@ -284,6 +313,47 @@ impl Meter {
             Some(_) => judged(&result, "entries of H granted"),
         };
         self.sealed_answer(0xD4, keys, key, answer, verdict)
+    }
+
+    /// A read that is too long for one frame: its first block goes out.
+    fn first_block(&mut self, get: &Get, keys: &Keys, key: Block) -> Outcome {
+        let selection = get.selector.as_ref().and_then(Selection::of);
+        let [all, by_date, by_entries, ..] = BLOCKS;
+        let event = match selection {
+            None => all,
+            Some(Selection::Range { .. }) => by_date,
+            Some(Selection::Entries { .. }) => by_entries,
+        };
+        let (answer, _) = self.block_sent(get.target.invoke, selection, 1);
+        self.sealed_answer(0xD4, keys, key, answer, (0, event))
+    }
+
+    /// A request for the next block names the one sent last. It is refused by a last block of its own number, and the transfer
+    /// is then forgotten.
+    fn next_block(&mut self, next: &Next, keys: &Keys, key: Block) -> Outcome {
+        let [.., middle_block, last_block] = BLOCKS;
+        let [ended, none, wrong] = BLOCK_REFUSALS;
+        let (code, event) = match std::mem::replace(&mut self.transfer, Transfer::Absent) {
+            Transfer::Running { selection, block } if block == next.number => {
+                let (answer, last) = self.block_sent(next.invoke, selection, block + 1);
+                let event = if last { last_block } else { middle_block };
+                return self.sealed_answer(0xD4, keys, key, answer, (0, event));
+            }
+            Transfer::Ended => (ENDED_MEANWHILE, ended),
+            Transfer::Absent => (NONE_RUNNING, none),
+            Transfer::Running { .. } => (WRONG_NUMBER, wrong),
+        };
+        self.sealed_answer(0xD4, keys, key, request::block_refusal(next, code), (13, event))
+    }
+
+    /// The answer with the block of this number, and whether it is the last; if not, a transfer runs.
+    fn block_sent(&mut self, invoke: u8, selection: Option<Selection>, number: u32) -> (Vec<u8>, bool) {
+        let data = objects::rows_data(self, &selection).expect("the read was granted");
+        let (block, last) = transfer::block(&data, number).expect("more data come");
+        if !last {
+            self.transfer = Transfer::Running { selection, block: number };
+        }
+        (request::block_answer(invoke, number, block, last), last)
     }
 
     fn sealed_action(&mut self, apdu: &[u8], keys: &Keys, key: Block) -> Outcome {
@@ -351,6 +421,33 @@ impl Meter {
 /// Whether an ACTION answers the meter's challenge.
 pub fn is_to_the_challenge(target: &Target) -> bool {
     (target.class, target.name, target.number) == (CHALLENGE_CLASS, CHALLENGE, 1)
+}
+
+/// What blocks are sent.
+pub const BLOCKS: [&str; 5] = [
+    "first block of all rows",
+    "first block of rows by date",
+    "first block of rows by entries",
+    "middle block",
+    "last block",
+];
+
+/// What refuses a request for a block.
+pub const BLOCK_REFUSALS: [&str; 3] =
+    ["code 15, the transfer ended meanwhile", "code 16, no transfer runs", "code 19, another block was sent last"];
+
+/// A request for a block where blocks are not agreed: malformed as any other bytes.
+pub const BLOCK_NOT_AGREED: [&str; 2] = ["request of H for a block, not agreed", "request of V for a block"];
+
+/// A GET, or what should have been one, that is malformed.
+fn malformed_get(apdu: &[u8], otherwise: &'static str) -> Outcome {
+    let [han, verification] = BLOCK_NOT_AGREED;
+    let event = match (request::read_next(apdu), otherwise) {
+        (None, _) => otherwise,
+        (Some(_), "malformed GET of H") => han,
+        (Some(_), _) => verification,
+    };
+    Outcome::exception(NOT_SUPPORTED, event)
 }
 
 /// What a release comes to.

@@ -1,6 +1,7 @@
-//! GET and ACTION in their normal form, read, and their answers written (Green Book; document 01, "Objects and rows").
+//! GET and ACTION in their normal form, and a request for the next block, read, and their answers written (Green Book; document
+//! 01, "Objects and rows"; change request Q-4).
 
-use crate::bytes::Reader;
+use crate::bytes::{shortest_length, Reader};
 use crate::value::Value;
 
 pub type Name = [u8; 6];
@@ -40,6 +41,20 @@ pub fn read_get(apdu: &[u8]) -> Option<Get> {
     Some(Get { target, selector })
 }
 
+/// A request for the block behind the one of this number.
+pub struct Next {
+    pub invoke: u8,
+    pub number: u32,
+}
+
+/// A request for the next block, where these bytes are one.
+pub fn read_next(apdu: &[u8]) -> Option<Next> {
+    let mut reader = Reader::new(apdu);
+    reader.fixed(&[0xC0, 0x02])?;
+    let next = Next { invoke: reader.byte()?, number: reader.number32()? };
+    reader.end().map(|()| next)
+}
+
 /// An ACTION, where these bytes are one.
 pub fn read_action(apdu: &[u8]) -> Option<Action> {
     let mut reader = Reader::new(apdu);
@@ -58,6 +73,17 @@ pub fn get_answer(invoke: u8, result: &Result<Value, u8>) -> Vec<u8> {
         Ok(value) => [&[0xC4, 0x01, invoke, 0x00], &value.bytes()[..]].concat(),
         Err(code) => vec![0xC4, 0x01, invoke, 0x01, *code],
     }
+}
+
+/// A block with its data.
+pub fn block_answer(invoke: u8, number: u32, data: &[u8], last: bool) -> Vec<u8> {
+    let head = [&[0xC4, 0x02, invoke, last.into()], &number.to_be_bytes()[..], &[0x00]].concat();
+    [head, shortest_length(data.len()), data.to_vec()].concat()
+}
+
+/// The last block that refuses a request for a block: its own number, and a result code.
+pub fn block_refusal(next: &Next, code: u8) -> Vec<u8> {
+    [&[0xC4, 0x02, next.invoke, 0x01], &next.number.to_be_bytes()[..], &[0x01, code]].concat()
 }
 
 /// The answer to an ACTION that returns nothing: done, or a result code.

@@ -35,7 +35,7 @@ fn line(frame: &str) -> String {
 #[test]
 fn names() {
     let names: BTreeSet<&str> = TESTS.iter().map(|&(_, name, _)| name).collect();
-    assert_eq!(names.len(), 53);
+    assert_eq!(names.len(), 57);
     assert!(names.iter().all(|name| name.bytes().all(|byte| byte.is_ascii_alphanumeric() || byte == b'-')));
 }
 

@@ -1,7 +1,8 @@
 //! The second meter held against published values, so that it is no judge that was never judged: FIPS 197, SP 800-38A, the
 //! GCM specification, the Green Book, figure 5-2 of the P2 agreement, document 01's marked examples, counters that run over,
-//! ranges of rows, a worked session, and what it explains.
+//! ranges of rows, answers in blocks, a worked session, and what it explains.
 
+mod blocks;
 mod ciphers;
 mod counters;
 mod explanations;

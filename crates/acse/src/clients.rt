@@ -52,7 +52,7 @@ fn offered_ciphering(client: CipherClient) -> [u8; 3]
     ensures { λ r. ⌜ r ≡ offered (Ciphering client) ⌝ }
 {
     match client {
-        CipherClient::Han => *b"\x00\x00\x15",
+        CipherClient::Han => *b"\x00\x10\x15",
     }
 }
 

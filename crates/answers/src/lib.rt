@@ -1,6 +1,9 @@
 // The body's answer to an opened request, written into the reply buffer as a plain APDU, and the body afterwards. A writer
 // requires room for its bytes; what is to be written, and how long it is, was decided before the first byte.
 use crate::granted::put_data;
+use crate::transfer::after_read;
+use crate::transfer::answer_next;
+use crate::transfer::put_rows_block;
 use body::BodyState;
 use cosem::Asked;
 use cosem::Wanted;
@@ -9,6 +12,7 @@ use objects::Argument;
 use objects::Found;
 use objects::Query;
 use objects::Selector;
+use results::Invoked;
 use results::Outcome;
 ghost use mathlib.Core.Path.{_≡_};
 ghost use mathlib.Core.Bool.{true};
@@ -17,14 +21,21 @@ ghost use Prim.Native.Nat.{_+_, _≤_};
 ghost use lib.ListN.{length};
 ghost use Rattle.wire.specs.Wrote.{Wrote};
 ghost use Rattle.model.specs.Limits.{longestSent, textRoom};
-ghost use Rattle.model.specs.Objects.{action, answered, get, turned};
+ghost use Rattle.model.specs.Objects.{action, answered, ask, get, turned};
 ghost use Rattle.cosem.specs.Requests.{requested};
 ghost use Rattle.body.specs.View.{bodyOf, bodySound};
 ghost use Rattle.objects.specs.Meanings.{foundAs, requestAs};
 ghost use Rattle.objects.specs.Picks.{parameterIn, selectionIn};
-ghost use Rattle.answers.specs.Promise.{Turns};
+ghost use Rattle.answers.specs.Promise.{Turns, inquiryIn};
 
 mod granted;
+mod transfer;
+
+// What an opened APDU asks of the body: a request; or the next block of a long answer, after the block of this number.
+pub enum Inquiry {
+    Ask(Asked),
+    Next { invoke: u8, number: u32 },
+}
 
 // The number of the refusal, or 0, the place after the answer, and the body.
 pub struct Turned {
@@ -33,24 +44,48 @@ pub struct Turned {
     pub body: BodyState,
 }
 
-// The answer to what a client asked with this APDU.
+// The answer to what a client asked with this APDU; selective access and block transfer were agreed or not.
 pub fn answer(
     body: BodyState,
     client: Client,
     selective: bool,
+    blocks: bool,
+    apdu: &[u8],
+    inquiry: Inquiry,
+    out: &mut [u8],
+    at: usize,
+) -> Turned
+    requires { ⌜ (bodySound (bodyOf body) ≡ true) × (at + textRoom longestSent ≤ length (now out)) ⌝ }
+    ensures { λ r. ⌜ Turns (turned (inquiryIn client selective blocks (now (apdu .entry)) inquiry) (bodyOf body)) (now (out .entry)) at (now (out .exit)) r ⌝ }
+{
+    match inquiry {
+        Inquiry::Ask(asked) => {
+            answer_request(body, client, selective, blocks, apdu, asked, out, at)
+        }
+        Inquiry::Next { invoke, number } => answer_next(body, invoke, number, out, at),
+    }
+}
+
+// The answer to a request.
+fn answer_request(
+    body: BodyState,
+    client: Client,
+    selective: bool,
+    blocks: bool,
     apdu: &[u8],
     asked: Asked,
     out: &mut [u8],
     at: usize,
 ) -> Turned
     requires { ⌜ (bodySound (bodyOf body) ≡ true) × (at + textRoom longestSent ≤ length (now out)) ⌝ }
-    ensures { λ r. ⌜ Turns (turned (requested client selective (now (apdu .entry)) asked) (bodyOf body)) (now (out .entry)) at (now (out .exit)) r ⌝ }
+    ensures { λ r. ⌜ Turns (turned (ask (requested client selective blocks (now (apdu .entry)) asked)) (bodyOf body)) (now (out .entry)) at (now (out .exit)) r ⌝ }
 {
     let name = cosem::name_in(apdu);
     let query = Query {
         client,
         invoke: asked.invoke,
         selective,
+        blocks,
         class: asked.class,
         name,
     };
@@ -121,6 +156,7 @@ fn answer_get(
     requires { ⌜ (bodySound (bodyOf body) ≡ true) × (at + textRoom longestSent ≤ length (now out)) ⌝ }
     ensures { λ r. ⌜ Turns (answered (requestAs query (get attribute (selectionIn (now (apdu .entry)) selector))) (bodyOf body) (foundAs (query .name) found) (get attribute (selectionIn (now (apdu .entry)) selector))) (now (out .entry)) at (now (out .exit)) r ⌝ }
 {
+    let client = query.client;
     let o = results::read_attribute(body, found, query, attribute, selector, apdu);
     match o {
         Outcome::Granted(d) => {
@@ -130,7 +166,17 @@ fn answer_get(
             Turned {
                 refusal: 0,
                 next: b,
-                body,
+                body: after_read(body, client, picks::no_transfer()),
+            }
+        }
+        Outcome::Begun { which } => {
+            let rows = body.rows;
+            let b = put_rows_block(out, at, query.invoke, 1, rows, which);
+            let picking = objects::picking_of(selector, apdu);
+            Turned {
+                refusal: 0,
+                next: b.next,
+                body: after_read(body, client, picks::running(picking, 1)),
             }
         }
         Outcome::Denied(code) => {
@@ -139,7 +185,7 @@ fn answer_get(
             Turned {
                 refusal: 13,
                 next: b,
-                body,
+                body: after_read(body, client, picks::no_transfer()),
             }
         }
     }
@@ -160,7 +206,7 @@ fn answer_action(
 {
     let o = results::invoke_method(found, query, method, argument, apdu);
     match o {
-        Outcome::Granted(_) => {
+        Invoked::Done => {
             let a = put_head(out, at, 0xC7, query.invoke, 0x00);
             let b = wire_write::put(out, a, 0x00);
             let next = results::after_method(body, found);
@@ -170,7 +216,7 @@ fn answer_action(
                 body: next,
             }
         }
-        Outcome::Denied(code) => {
+        Invoked::Denied(code) => {
             let a = put_head(out, at, 0xC7, query.invoke, code);
             let b = wire_write::put(out, a, 0x00);
             Turned {

@@ -5,14 +5,16 @@ use mathlib.Core.Bool.{true, false, false≢true}
 use mathlib.Core.List.{List}
 use Prim.Native.Nat.{ℕ, _-_, _≤_, _<_}
 use native.Mathlib.Omega.{arith}
+use lib.Dec.{eqb}
 use lib.ListN.{length, take, drop}
 use Rattle.model.specs.Periods.{listed}
 use Rattle.model.specs.Limits.{longestSent, textRoom, envelopeLength}
 use Rattle.model.specs.declared.CipherClient.{CipherClient}
 use Rattle.model.specs.declared.Client.the-variants.{Verification, Ciphering}
-use Rattle.model.specs.State.{Line, Body}
-use Rattle.model.specs.Objects.{Request, Service, get, action, meaning, Result, granted, denied, refusalOf as resultNumber, attributeRead, methodInvoked, getAnswer, actionAnswer, answered, turned}
+use Rattle.model.specs.State.{Line, Transfer, idle, running, ended, Body}
+use Rattle.model.specs.Objects.{Service, get, action, Inquiry, ask, goOn, meaning, Result, granted, begun, denied, refusalOf as resultNumber, attributeRead, methodInvoked, Turn, continued, answered, turned}
 use Rattle.model.specs.Calls.{Wrap}
+use Rattle.model.proofs.ListLaws.{by-test}
 use Rattle.wire_write.proofs.WroteLaws.{there}
 use Rattle.hdlc.specs.declared.Head.{Head}
 use Rattle.hdlc.specs.Replies.{apduFrame, Sent}
@@ -33,24 +35,32 @@ use Rattle.protocol.specs.Clients.{counters, dedicatedKeys}
 use Rattle.protocol.specs.Rulings.{asks}
 use Rattle.protocol.specs.Outcomes.{keeping}
 use Rattle.protocol.specs.Decide.{wrap, around, seal}
+use Rattle.protocol.proofs.Turns.{turned-some}
 use Rattle.ending.specs.Inner.{received, SameAssociations, Follows}
 use Rattle.ending.proofs.Endings.{sent-over, leaves, same-wipes}
 
 -- the body denies by 13, and by no other number
-turned-free : (q : Request) (b : Body) → listed (turned q b .refusal) keeping ≡ false
+turned-free : (q : Inquiry) (b : Body) → listed (turned q b .refusal) keeping ≡ false
 unfolding turned
-turned-free q b = go (q .service)
+turned-free (ask q) b = go (q .service)
   where
     result : (x : Result) → listed (resultNumber x) keeping ≡ false
     result (granted d) = refl
+    result (begun t d) = refl
     result (denied c) = refl
 
     go : (s : Service) → listed (answered q b (meaning (q .client) (q .name) (b .store .registers)) s .refusal) keeping ≡ false
     go (get a s) = result (attributeRead q a s b (meaning (q .client) (q .name) (b .store .registers)))
     go (action k v) = result (methodInvoked q k v (meaning (q .client) (q .name) (b .store .registers)))
+turned-free (goOn i n) b = go (b .transfer)
+  where
+    go : (t : Transfer) → listed (continued i n b t .refusal) keeping ≡ false
+    go idle = refl
+    go (running x k) = by-test (λ (u : Turn). listed (u .refusal) keeping ≡ false) (eqb n k) (λ _. refl) (λ _. refl)
+    go ended = refl
 
 -- the body answers
-pub serves : (q : Request) (w : Wrap) (m : Meter) (next : LineState) {becomes : Line} (b : BodyState) {l o : List ℕ} {n k : ℕ}
+pub serves : (q : Inquiry) (w : Wrap) (m : Meter) (next : LineState) {becomes : Line} (b : BodyState) {l o : List ℕ} {n k : ℕ}
     → lineOf next ≡ becomes
     → n ≡ turned q (bodyOf (m .body)) .refusal
     → bodyOf b ≡ turned q (bodyOf (m .body)) .body
@@ -65,25 +75,8 @@ serves q w m next {becomes} b v e f s a =
       wiped = leaves m next v b (same-wipes next a);
     }
 
--- an answer of the body has some bytes
-turned-some : (q : Request) (b : Body) → 0 < length (turned q b .bytes)
-unfolding turned
-turned-some q b = go (q .service)
-  where
-    got : (i : ℕ) (x : Result) → 0 < length (getAnswer i x)
-    got i (granted d) = omega arith
-    got i (denied c) = omega arith
-
-    acted : (i : ℕ) (x : Result) → 0 < length (actionAnswer i x)
-    acted i (granted d) = omega arith
-    acted i (denied c) = omega arith
-
-    go : (s : Service) → 0 < length (answered q b (meaning (q .client) (q .name) (b .store .registers)) s .bytes)
-    go (get a s) = got (q .invoke) (attributeRead q a s b (meaning (q .client) (q .name) (b .store .registers)))
-    go (action k v) = acted (q .invoke) (methodInvoked q k v (meaning (q .client) (q .name) (b .store .registers)))
-
 -- The body's answer that was written at a place: how long it is, and that it goes out.
-module _ (q : Request) (b : Body) (at : ℕ) {l m : List ℕ} {r : Turned} (t : Turns (turned q b) l at m r) where
+module _ (q : Inquiry) (b : Body) (at : ℕ) {l m : List ℕ} {r : Turned} (t : Turns (turned q b) l at m r) where
   pub answer-size : r .next - at ≡ length (turned q b .bytes)
   answer-size = omega (arith, t .wrote .next)
 

@@ -1,14 +1,14 @@
-// Requests for the body: V's plain GET, and GET and ACTION of a client that ciphers in their envelopes.
-use cosem::Asked;
+// Requests for the body: V's plain GET, and GET and ACTION of a client that ciphers in their envelopes; and its requests for a block.
+use answers::Inquiry;
 use cosem::Exception;
 use cosem::Reading;
 use cosem::ServiceKind;
 use ending::Received;
-use ending::accept_counter;
 use ending::drop_association;
 use ending::except;
 use ending::joined;
 use ending::kept;
+use ending::misread;
 use envelope::Admission;
 use envelope::LONGEST_APDU;
 use hdlc::Head;
@@ -23,10 +23,11 @@ ghost use mathlib.Core.List.{List};
 ghost use Prim.Native.Nat.{ℕ};
 ghost use Rattle.model.specs.declared.Client.the-variants.{Ciphering, Verification};
 ghost use Rattle.cosem.specs.Tags.{dedicatedTag};
-ghost use Rattle.cosem.specs.Requests.{readService, requested};
+ghost use Rattle.cosem.specs.Requests.{readService};
 ghost use Rattle.line.specs.View.{lineOf};
 ghost use Rattle.protocol.specs.declared.Secrets.{Secrets as Lender};
-ghost use Rattle.protocol.specs.Clients.{selectiveIn};
+ghost use Rattle.answers.specs.Promise.{inquiryIn};
+ghost use Rattle.protocol.specs.Clients.{blocksIn, selectiveIn};
 ghost use Rattle.protocol.specs.Rulings.{asks};
 ghost use Rattle.protocol.specs.Decide.{accepted, advanced, asked, askedInside, ofCiphering, requestEnclosed, wrap};
 ghost use Rattle.ending.specs.Inner.{Follows, FollowsUnder, Ready};
@@ -46,7 +47,22 @@ pub fn ask_plain(
     let line = meter.line;
     let reading = cosem::read_service(kind, apdu);
     match reading {
-        Reading::Asks(request) => answer_plain(meter, client, head, apdu, request, out),
+        Reading::Asks(request) => {
+            answer_plain(meter, client, head, apdu, Inquiry::Ask(request), out)
+        }
+        Reading::GoesOn { invoke, number } => {
+            if !association::takes_blocks(line, client) {
+                return joined(except(line, head, Exception::ServiceUnknown, out), meter);
+            }
+            answer_plain(
+                meter,
+                client,
+                head,
+                apdu,
+                Inquiry::Next { invoke, number },
+                out,
+            )
+        }
         Reading::Malformed => { joined(except(line, head, Exception::ServiceUnknown, out), meter) }
     }
 }
@@ -57,16 +73,17 @@ fn answer_plain(
     client: Client,
     head: Head,
     apdu: &[u8],
-    request: Asked,
+    inquiry: Inquiry,
     out: &mut [u8],
 ) -> Received
     requires { ⌜ Ready meter (now out) ⌝ }
-    ensures { λ r. ⌜ ((ak : List ℕ) → Follows (asks (requested client (selectiveIn client (lineOf (meter .line))) (now (apdu .entry)) request) (wrap ak Verification head 0xC0) (lineOf (meter .line))) meter (now (out .entry)) (now (out .exit)) r) ⌝ }
+    ensures { λ r. ⌜ ((ak : List ℕ) → Follows (asks (inquiryIn client (selectiveIn client (lineOf (meter .line))) (blocksIn client (lineOf (meter .line))) (now (apdu .entry)) inquiry) (wrap ak Verification head 0xC0) (lineOf (meter .line))) meter (now (out .entry)) (now (out .exit)) r) ⌝ }
 {
     let line = meter.line;
     let body = meter.body;
     let selective = association::is_selective(line, client);
-    let answer = answers::answer(body, client, selective, apdu, request, out, APDU_AT);
+    let blocks = association::takes_blocks(line, client);
+    let answer = answers::answer(body, client, selective, blocks, apdu, inquiry, out, APDU_AT);
     let size = answer.next - APDU_AT;
     let count = replies::send_plain(out, head, size);
     let after = answer.body;
@@ -153,15 +170,37 @@ fn ask_inside(
     requires { ⌜ Ready meter (now out) ⌝ }
     ensures { λ r. ⌜ FollowsUnder client keys (λ a. askedInside (lineOf (meter .line)) a client head kind counter (now (text .entry)) (readService kind (now (text .entry)))) meter (now (out .entry)) (now (out .exit)) r ⌝ }
 {
+    let line = meter.line;
     let reading = cosem::read_service(kind, text);
     match reading {
-        Reading::Asks(request) => {
-            answer_enclosed(meter, client, keys, head, kind, counter, text, request, out)
+        Reading::Asks(request) => answer_enclosed(
+            meter,
+            client,
+            keys,
+            head,
+            kind,
+            counter,
+            text,
+            Inquiry::Ask(request),
+            out,
+        ),
+        Reading::GoesOn { invoke, number } => {
+            if !association::takes_blocks(line, Client::Ciphering(client)) {
+                return joined(misread(line, client, head, counter, out), meter);
+            }
+            answer_enclosed(
+                meter,
+                client,
+                keys,
+                head,
+                kind,
+                counter,
+                text,
+                Inquiry::Next { invoke, number },
+                out,
+            )
         }
-        Reading::Malformed => {
-            let next = accept_counter(meter.line, client, counter);
-            joined(except(next, head, Exception::ServiceUnknown, out), meter)
-        }
+        Reading::Malformed => joined(misread(line, client, head, counter, out), meter),
     }
 }
 
@@ -174,11 +213,11 @@ fn answer_enclosed(
     kind: ServiceKind,
     counter: u32,
     text: &[u8],
-    request: Asked,
+    inquiry: Inquiry,
     out: &mut [u8],
 ) -> Received
     requires { ⌜ Ready meter (now out) ⌝ }
-    ensures { λ r. ⌜ FollowsUnder client keys (λ a. asks (requested (Ciphering client) (selectiveIn (Ciphering client) (lineOf (meter .line))) (now (text .entry)) request) (wrap (a .ak) (Ciphering client) head (dedicatedTag kind)) (advanced client (accepted client counter (lineOf (meter .line))))) meter (now (out .entry)) (now (out .exit)) r ⌝ }
+    ensures { λ r. ⌜ FollowsUnder client keys (λ a. asks (inquiryIn (Ciphering client) (selectiveIn (Ciphering client) (lineOf (meter .line))) (blocksIn (Ciphering client) (lineOf (meter .line))) (now (text .entry)) inquiry) (wrap (a .ak) (Ciphering client) head (dedicatedTag kind)) (advanced client (accepted client counter (lineOf (meter .line))))) meter (now (out .entry)) (now (out .exit)) r ⌝ }
 {
     let line = meter.line;
     let body = meter.body;
@@ -189,7 +228,8 @@ fn answer_enclosed(
     let next = association::with_counters(line, client, taken.counters);
     let asking = Client::Ciphering(client);
     let selective = association::is_selective(line, asking);
-    let answer = answers::answer(body, asking, selective, text, request, out, TEXT_AT);
+    let blocks = association::takes_blocks(line, asking);
+    let answer = answers::answer(body, asking, selective, blocks, text, inquiry, out, TEXT_AT);
     let size = answer.next - TEXT_AT;
     let title = line.title;
     let tag = cosem::answer_tag(kind);

@@ -29,7 +29,7 @@ ghost use Prim.Native.Nat.{ℕ};
 ghost use Rattle.model.specs.State.{none, «pending» as pendingWith, associated};
 ghost use Rattle.material.specs.Material.{keysOf};
 ghost use Rattle.line.specs.View.{lineOf};
-ghost use Rattle.protocol.specs.Clients.{agreedIn, bitAgreed, dedicatedKeys, isUnknown, lentKeys, mayAskEnclosed, mayAskPlain, peer, permitted, selectiveIn, serviceAgreed};
+ghost use Rattle.protocol.specs.Clients.{agreedIn, bitAgreed, blocksIn, dedicatedKeys, isUnknown, lentKeys, mayAskEnclosed, mayAskPlain, peer, permitted, selectiveIn, serviceAgreed};
 ghost use Rattle.protocol.specs.Decide.{heldByP5};
 ghost use Rattle.association.specs.Lent.{secretsIn};
 
@@ -166,6 +166,14 @@ pub fn is_selective(line: LineState, client: Client) -> bool
 {
     let agreed = agreed_in(line, client);
     line::is_within([0x00, 0x00, 0x04], agreed)
+}
+
+// Whether block transfer is agreed.
+pub fn takes_blocks(line: LineState, client: Client) -> bool
+    ensures { λ r. ⌜ r ≡ blocksIn client (lineOf line) ⌝ }
+{
+    let agreed = agreed_in(line, client);
+    line::is_within([0x00, 0x10, 0x00], agreed)
 }
 
 // What is lent, as arrays; zeros where there are fewer bytes.

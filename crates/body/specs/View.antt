@@ -1,4 +1,5 @@
--- What the body of the code holds, as the model's Body: the slots of an array above its count are no part of it.
+-- What the body of the code holds, as the model's Body: the slots of an array above its count, and what a transfer does not use,
+-- are no part of it.
 use mathlib.Core.Bool.{Bool, _&&_}
 use mathlib.Core.List.{List, []}
 use Prim.Native.Nat.{ℕ, _≤_, _<_}
@@ -9,8 +10,9 @@ use Rattle.model.specs.Names.{every}
 use Rattle.model.specs.Clocks.{validClock}
 use Rattle.model.specs.Periods.{permittedPeriod}
 use Rattle.model.specs.State.{Body, newMeter}
-use Rattle.model.specs.Soundness.{acceptedRegisters, acceptedColumns}
+use Rattle.model.specs.Soundness.{acceptedRegisters, acceptedColumns, goesOn}
 use Rattle.store.specs.Lists.{registersOf, columnsOf, entriesOf}
+use Rattle.picks.specs.Transfers.{transferOf}
 use Rattle.body.specs.declared.BodyState.{BodyState}
 
 unfoldable pub bodyOf : BodyState → Body
@@ -20,6 +22,7 @@ bodyOf b =
       clock = b .clock;
       period = b .period;
       number = b .number;
+      transfer = transferOf (b .transfer);
       store = record { registers = registersOf (b .registers); columns = columnsOf (b .columns); rows = entriesOf (b .rows) };
     }
 
@@ -27,7 +30,7 @@ bodyOf b =
 abbrev pub newBody : (device : List ℕ) → Body
 newBody d = newMeter d [] [] [] .body
 
--- The tests of soundness on the body.
+-- The tests of soundness on the body; of a transfer, what they ask of the rows.
 
 -- the tests on the rows, beside n columns
 unfoldable pub rowsSound : ℕ → Body → Bool
@@ -39,7 +42,8 @@ unfoldable pub bodySound : Body → Bool
 bodySound b =
     acceptedRegisters (b .store .registers)
     && (acceptedColumns (b .store .registers) (b .store .columns)
-    && (permittedPeriod (b .period) && (validClock (b .clock) && rowsSound (length (b .store .columns)) b)))
+    && (permittedPeriod (b .period)
+    && (validClock (b .clock) && (rowsSound (length (b .store .columns)) b && goesOn (b .store) (b .transfer)))))
 
 -- what a sound body lets its functions count on: counts are within their arrays, and the period is no zero
 pub record Fit (b : BodyState) : Type 0 where

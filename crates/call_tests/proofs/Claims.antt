@@ -21,10 +21,10 @@ use Rattle.hdlc.specs.Addresses.{senderOf}
 use Rattle.hdlc.specs.Reading.{refusedFrame, readFrame}
 use Rattle.protocol.specs.Decide.{secretsOf}
 use Rattle.call_tests.specs.declared.LentTest.the-variants.{ReplyRoom, GukLength, AkLength, ChallengeLength}
-use Rattle.model.specs.declared.SoundnessTest.the-variants.{RegisterList, ColumnList, PeriodPermitted, ClockValid, RowClocksValid, RowCount, RowCells, AssociationKind, AssociationOnLink, AgreedServices}
+use Rattle.model.specs.declared.SoundnessTest.the-variants.{RegisterList, ColumnList, PeriodPermitted, ClockValid, RowClocksValid, RowCount, RowCells, AssociationKind, AssociationOnLink, AgreedServices, TransferPossible}
 use Rattle.hdlc.specs.declared.FrameTest.the-variants.{ShortFrame, FlagMissing, FrameType, LengthMismatch, LengthEightOrNine, WrongFcs, WrongHcs, EvenAddress, FrmrReceived, OverLength, SegmentBit, PfClear, WrongDestination, WrongSource, UnknownControl, LinkDownWithInformation, ShortInformation, WrongLlc}
 use Rattle.call_tests.specs.declared.LineTest.the-variants.{LinkUpWithInformation, P5HoldsV, LinkDownWhileDown, DataWhileDown, UnknownTag, TagNotPermitted, BitNotAgreed, AarqNotAccepted, EnvelopeShape, EnvelopeTag, CounterWindow, MalformedApdu, NotTheChallenge, WrongProof}
-use Rattle.call_tests.specs.declared.BodyTest.the-variants.{NameUnknown, ClassWrong, NotServed, ParameterShape, EntriesWrong, RangeWrong, AnswerTooLong}
+use Rattle.call_tests.specs.declared.BodyTest.the-variants.{NameUnknown, ClassWrong, NotServed, ParameterShape, EntriesWrong, RangeWrong, AnswerTooLong, TransferEnded, NoTransfer, BlockNumber}
 use Rattle.call_tests.specs.declared.CallTest.{CallTest}
 use Rattle.call_tests.specs.declared.CallTest.the-variants.{Lent as OfLent, Sound as OfState, Frame as OfFrame, Line as OfLine, Body as OfBody}
 use Rattle.call_tests.specs.declared.Finding.{Finding}
@@ -58,45 +58,49 @@ all-stand (OfState RowCells) = at 10 refl
 all-stand (OfState AssociationKind) = at 11 refl
 all-stand (OfState AssociationOnLink) = at 12 refl
 all-stand (OfState AgreedServices) = at 13 refl
-all-stand (OfFrame ShortFrame) = at 14 refl
-all-stand (OfFrame FlagMissing) = at 15 refl
-all-stand (OfFrame FrameType) = at 16 refl
-all-stand (OfFrame LengthMismatch) = at 17 refl
-all-stand (OfFrame LengthEightOrNine) = at 18 refl
-all-stand (OfFrame WrongFcs) = at 19 refl
-all-stand (OfFrame WrongHcs) = at 20 refl
-all-stand (OfFrame EvenAddress) = at 21 refl
-all-stand (OfFrame FrmrReceived) = at 22 refl
-all-stand (OfFrame OverLength) = at 23 refl
-all-stand (OfFrame SegmentBit) = at 24 refl
-all-stand (OfFrame PfClear) = at 25 refl
-all-stand (OfFrame WrongDestination) = at 26 refl
-all-stand (OfFrame WrongSource) = at 27 refl
-all-stand (OfFrame UnknownControl) = at 28 refl
-all-stand (OfFrame LinkDownWithInformation) = at 29 refl
-all-stand (OfFrame ShortInformation) = at 30 refl
-all-stand (OfFrame WrongLlc) = at 31 refl
-all-stand (OfLine LinkUpWithInformation) = at 32 refl
-all-stand (OfLine P5HoldsV) = at 33 refl
-all-stand (OfLine LinkDownWhileDown) = at 34 refl
-all-stand (OfLine DataWhileDown) = at 35 refl
-all-stand (OfLine UnknownTag) = at 36 refl
-all-stand (OfLine TagNotPermitted) = at 37 refl
-all-stand (OfLine BitNotAgreed) = at 38 refl
-all-stand (OfLine AarqNotAccepted) = at 39 refl
-all-stand (OfLine EnvelopeShape) = at 40 refl
-all-stand (OfLine EnvelopeTag) = at 41 refl
-all-stand (OfLine CounterWindow) = at 42 refl
-all-stand (OfLine MalformedApdu) = at 43 refl
-all-stand (OfLine NotTheChallenge) = at 44 refl
-all-stand (OfLine WrongProof) = at 45 refl
-all-stand (OfBody NameUnknown) = at 46 refl
-all-stand (OfBody ClassWrong) = at 47 refl
-all-stand (OfBody NotServed) = at 48 refl
-all-stand (OfBody ParameterShape) = at 49 refl
-all-stand (OfBody EntriesWrong) = at 50 refl
-all-stand (OfBody RangeWrong) = at 51 refl
-all-stand (OfBody AnswerTooLong) = at 52 refl
+all-stand (OfState TransferPossible) = at 14 refl
+all-stand (OfFrame ShortFrame) = at 15 refl
+all-stand (OfFrame FlagMissing) = at 16 refl
+all-stand (OfFrame FrameType) = at 17 refl
+all-stand (OfFrame LengthMismatch) = at 18 refl
+all-stand (OfFrame LengthEightOrNine) = at 19 refl
+all-stand (OfFrame WrongFcs) = at 20 refl
+all-stand (OfFrame WrongHcs) = at 21 refl
+all-stand (OfFrame EvenAddress) = at 22 refl
+all-stand (OfFrame FrmrReceived) = at 23 refl
+all-stand (OfFrame OverLength) = at 24 refl
+all-stand (OfFrame SegmentBit) = at 25 refl
+all-stand (OfFrame PfClear) = at 26 refl
+all-stand (OfFrame WrongDestination) = at 27 refl
+all-stand (OfFrame WrongSource) = at 28 refl
+all-stand (OfFrame UnknownControl) = at 29 refl
+all-stand (OfFrame LinkDownWithInformation) = at 30 refl
+all-stand (OfFrame ShortInformation) = at 31 refl
+all-stand (OfFrame WrongLlc) = at 32 refl
+all-stand (OfLine LinkUpWithInformation) = at 33 refl
+all-stand (OfLine P5HoldsV) = at 34 refl
+all-stand (OfLine LinkDownWhileDown) = at 35 refl
+all-stand (OfLine DataWhileDown) = at 36 refl
+all-stand (OfLine UnknownTag) = at 37 refl
+all-stand (OfLine TagNotPermitted) = at 38 refl
+all-stand (OfLine BitNotAgreed) = at 39 refl
+all-stand (OfLine AarqNotAccepted) = at 40 refl
+all-stand (OfLine EnvelopeShape) = at 41 refl
+all-stand (OfLine EnvelopeTag) = at 42 refl
+all-stand (OfLine CounterWindow) = at 43 refl
+all-stand (OfLine MalformedApdu) = at 44 refl
+all-stand (OfLine NotTheChallenge) = at 45 refl
+all-stand (OfLine WrongProof) = at 46 refl
+all-stand (OfBody NameUnknown) = at 47 refl
+all-stand (OfBody ClassWrong) = at 48 refl
+all-stand (OfBody NotServed) = at 49 refl
+all-stand (OfBody ParameterShape) = at 50 refl
+all-stand (OfBody EntriesWrong) = at 51 refl
+all-stand (OfBody RangeWrong) = at 52 refl
+all-stand (OfBody AnswerTooLong) = at 53 refl
+all-stand (OfBody TransferEnded) = at 54 refl
+all-stand (OfBody NoTransfer) = at 55 refl
+all-stand (OfBody BlockNumber) = at 56 refl
 
 pub names-apart : NamesApart
 names-apart = refl

@@ -12,10 +12,10 @@ use Rattle.model.specs.declared.CipherClient.{CipherClient}
 use Rattle.model.specs.declared.SoundnessTest.{SoundnessTest}
 use Rattle.model.specs.Limits.{longestSent, replyRoom}
 use Rattle.model.specs.Names.{every}
-use Rattle.model.specs.State.{none, Line, Body, Model}
+use Rattle.model.specs.State.{Transfer, idle, running, ended, none, Line, Body, Model}
 use Rattle.model.specs.Soundness.{passes, soundnessTests, sound}
-use Rattle.model.specs.Objects.{Request, Result, granted, denied, refusalOf as resultRefusal, Meaning, meaning, Service, get, action, attributeRead, methodInvoked, answered, turned}
-use Rattle.model.specs.Calls.{Lent, Outcome, lentRefusal, refused, decided, act, step}
+use Rattle.model.specs.Objects.{Request, ask, goOn, Result, granted, begun, denied, refusalOf as resultRefusal, Meaning, meaning, Service, get, action, attributeRead, methodInvoked, answered, nextTurn, refusedTurn, continued, turned}
+use Rattle.model.specs.Calls.{Lent, Outcome, lentRefusal, Wrap, refused, decided, settles, act, step}
 use Rattle.hdlc.specs.declared.Head.{Head}
 use Rattle.hdlc.specs.declared.Frame.{Frame}
 use Rattle.hdlc.specs.declared.Frame.the-variants.{Unanswered, Rejected, LinkUp, LinkDown, Apdu}
@@ -24,7 +24,7 @@ use Rattle.cosem.specs.declared.Tag.{Tag}
 use Rattle.cosem.specs.declared.Tag.the-variants.{Aarq, Rlrq, PlainRequest, GlobalAction, DedicatedRequest, Unknown}
 use Rattle.cosem.specs.declared.ServiceKind.{ServiceKind}
 use Rattle.cosem.specs.declared.Reading.{Reading}
-use Rattle.cosem.specs.declared.Reading.the-variants.{Asks, Malformed}
+use Rattle.cosem.specs.declared.Reading.the-variants.{Asks, GoesOn, Malformed}
 use Rattle.cosem.specs.declared.Exception.the-variants.{ServiceNotAllowed, ServiceUnknown}
 use Rattle.cosem.specs.Tags.{dedicatedTag, tagIn, isRelease, releaseResponse, exceptionBytes}
 use Rattle.cosem.specs.Requests.{readAction, readService, requested}
@@ -40,20 +40,20 @@ use Rattle.envelope.specs.declared.Shape.{Shape}
 use Rattle.envelope.specs.declared.Shape.the-variants.{Misshapen, Shaped}
 use Rattle.envelope.specs.Opening.{shapeOf, openedBy, Opened, fails, opens, opened}
 use Rattle.protocol.specs.declared.Secrets.{Secrets}
-use Rattle.protocol.specs.Clients.{associates, ciphering, peer, withPeer, linked, counters, agreedIn, lentKeys, dedicatedKeys, permitted, bitAgreed, isUnknown}
-use Rattle.protocol.specs.Rulings.{Ruling, says, none as noTest, ua, dm, apdu, nothing, outsideWindow, p5HoldsV, linkDownWhileDown, dataWhileDown, unknownTag, tagNotPermitted, bitNotAgreed, notTheChallenge, refusedMalformed, decision}
+use Rattle.protocol.specs.Clients.{associates, ciphering, peer, withPeer, linked, counters, agreedIn, blocksIn, lentKeys, dedicatedKeys, permitted, bitAgreed, isUnknown}
+use Rattle.protocol.specs.Rulings.{Ruling, says, asks, none as noTest, ua, dm, apdu, nothing, outsideWindow, p5HoldsV, linkDownWhileDown, dataWhileDown, unknownTag, tagNotPermitted, bitNotAgreed, notTheChallenge, refusedMalformed, decision}
 use Rattle.protocol.specs.Decide.{heldByP5, linkUp, linkDown, acceptedPlain, acceptedCiphered, initiated, enclosed, associating, released, asked, accepted, askedInside, isChallenge, provesItself, proved, disproved, challenged, answeredChallenge, admitted, challengeEnclosed, requestEnclosed, ofCiphering, byTag, tested, conversed, carried, heard, secretsOf, ruled, decide, p2}
 use Rattle.call_tests.specs.declared.LentTest.the-variants.{ReplyRoom, GukLength, AkLength, ChallengeLength}
 use Rattle.call_tests.specs.declared.LineTest.the-variants.{P5HoldsV, LinkDownWhileDown, DataWhileDown, UnknownTag, TagNotPermitted, BitNotAgreed, AarqNotAccepted, CounterWindow, MalformedApdu, NotTheChallenge, WrongProof}
 use Rattle.call_tests.specs.declared.BodyTest.{BodyTest}
-use Rattle.call_tests.specs.declared.BodyTest.the-variants.{EntriesWrong}
-use Rattle.call_tests.specs.declared.CallTest.the-variants.{Lent as OfLent, Sound as OfState}
+use Rattle.call_tests.specs.declared.BodyTest.the-variants.{EntriesWrong, BlockNumber}
+use Rattle.call_tests.specs.declared.CallTest.the-variants.{Lent as OfLent, Sound as OfState, Body as OfBody}
 use Rattle.call_tests.specs.declared.Finding.{Finding}
 use Rattle.call_tests.specs.declared.Finding.the-variants.{Fails, Passes}
 use Rattle.call_tests.specs.Tests.{initiateAccepted, onOpened, aarqAccepted, callFails, firstFailing}
 use Rattle.call_tests.specs.Lines.{numberFound}
 use Rattle.call_tests.specs.Claims.{refusalIn, RightNumber}
-use Rattle.call_tests.specs.Road.{fault, linkUpFinds, linkDownFinds, selectorWrong, resultFinds, serviceFinds, bodyFinds, askedFinds, answerFinds, openedFinds, shapeFinds, envelopeFinds, ofCipheringFinds, challengeFinds, requestFinds, aarqFinds, releaseFinds, byTagFinds, testedFinds, carriedFinds, heardFinds, orElse, lentFinds, stateFinds, roadFinds}
+use Rattle.call_tests.specs.Road.{fault, linkUpFinds, linkDownFinds, selectorWrong, resultFinds, serviceFinds, bodyFinds, numberFinds, askedFinds, answerFinds, openedFinds, shapeFinds, envelopeFinds, ofCipheringFinds, challengeFinds, requestFinds, aarqFinds, releaseFinds, byTagFinds, testedFinds, carriedFinds, heardFinds, orElse, lentFinds, stateFinds, roadFinds}
 use Rattle.call_tests.proofs.Road.{found-road}
 
 module _ (m : Model) (a : Secrets) (h : Head) where
@@ -71,29 +71,49 @@ module _ (m : Model) (a : Secrets) (h : Head) where
 
   result-number : (t : BodyTest) (r : Result) → resultRefusal r ≡ numberFound (resultFinds t r)
   result-number t (granted d) = refl
+  result-number t (begun x d) = refl
   result-number t (denied c) = refl
 
   service-number : (q : Request) (w : Meaning) (v : Service) → answered q b w v .refusal ≡ numberFound (serviceFinds q b w v)
   service-number q w (get attribute s) = result-number (selectorWrong s) (attributeRead q attribute s b w)
   service-number q w (action method v) = result-number EntriesWrong (methodInvoked q method v w)
 
-  body-number : (q : Request) → turned q b .refusal ≡ numberFound (bodyFinds b q)
+  body-number : (q : Request) → turned (ask q) b .refusal ≡ numberFound (bodyFinds b q)
   unfolding turned bodyFinds
   body-number q = service-number q (meaning (q .client) (q .name) (b .store .registers)) (q .service)
 
+  number-number : (i n : ℕ) (t : Transfer) → continued i n b t .refusal ≡ numberFound (numberFinds n t)
+  number-number i n ended = refl
+  number-number i n idle = refl
+  number-number i n (running x k) = go (eqb n k)
+    where
+      go : (y : Bool) → cond y (nextTurn i x k b) (refusedTurn i n 19 b) .refusal ≡ numberFound (cond y Passes (Fails (OfBody BlockNumber)))
+      go true = refl
+      go false = refl
+
+  -- a numbered request, by its bit
+  bit-number : (i n : ℕ) (w : Wrap) (before after : Line) (y : Bool)
+      → N (cond y (asks (goOn i n) w after) (refusedMalformed h before)) ≡ numberFound (cond y (numberFinds n (b .transfer)) (fault MalformedApdu))
+  unfolding turned
+  bit-number i n w before after true = number-number i n (b .transfer)
+  bit-number i n w before after false = refl
+
   asked-number : (c : Client) (s : List ℕ) (r : Reading) → N (asked l a c h s r) ≡ numberFound (askedFinds l b c s r)
   asked-number c s Malformed = refl
-  asked-number c s (Asks q) = body-number (requested c _ s q)
+  asked-number c s (Asks q) = body-number (requested c _ _ s q)
+  asked-number c s (GoesOn i n) = bit-number i n _ _ _ (blocksIn c l)
 
   inside-number : (c : CipherClient) (k : ServiceKind) (n : ℕ) (text : List ℕ) (r : Reading) → N (askedInside l a c h k n text r) ≡ numberFound (askedFinds l b (Ciphering c) text r)
   inside-number c k n text Malformed = refl
-  inside-number c k n text (Asks q) = body-number (requested (Ciphering c) _ text q)
+  inside-number c k n text (Asks q) = body-number (requested (Ciphering c) _ _ text q)
+  inside-number c k n text (GoesOn i j) = bit-number i j _ _ _ (blocksIn (Ciphering c) l)
 
   -- The challenge.
 
   answer-number : (c : CipherClient) (n : ℕ) (text : List ℕ) (r : Reading) → N (answeredChallenge l a c h n text r) ≡ numberFound (answerFinds l a c n text r)
   unfolding challenged proved disproved
   answer-number c n text Malformed = refl
+  answer-number c n text (GoesOn i j) = refl
   answer-number c n text (Asks q) = go (isChallenge c text q) (provesItself l a c n text q)
     where
       go : (x y : Bool)
@@ -261,7 +281,7 @@ module _ (m : Model) (a : Lent) where
   unfolding step act sound roadFinds stateFinds decide ruled
   road-number =
       lent-number _ _
-      (state-number soundnessTests 0 (decided p2 (decision (heard (m .line) (secretsOf a) (a .received) (readFrame (a .received)))) m)
+      (state-number soundnessTests 0 (settles (decided p2 (decision (heard (m .line) (secretsOf a) (a .received) (readFrame (a .received)))) m))
       (heardFinds (m .line) (m .body) (secretsOf a) (a .received) (readFrame (a .received)))
       (heard-number m (secretsOf a) (a .received) (readFrame (a .received))))
 

@@ -12,15 +12,15 @@ use Rattle.gcm.specs.Gcm.{authentic, ciphered}
 use Rattle.model.specs.declared.Client.{Client}
 use Rattle.model.specs.declared.Client.the-variants.{Verification, Ciphering}
 use Rattle.model.specs.declared.CipherClient.{CipherClient}
-use Rattle.model.specs.declared.SoundnessTest.the-variants.{RegisterList, ColumnList, PeriodPermitted, ClockValid, RowClocksValid, RowCount, RowCells}
+use Rattle.model.specs.declared.SoundnessTest.the-variants.{RegisterList, ColumnList, PeriodPermitted, ClockValid, RowClocksValid, RowCount, RowCells, AssociationKind, AssociationOnLink, AgreedServices}
 use Rattle.model.specs.Limits.{longestSent, dataRoom, maxRows}
 use Rattle.model.specs.Names.{every}
 use Rattle.model.specs.Clocks.{validClock}
 use Rattle.model.specs.Periods.{permittedPeriod}
-use Rattle.model.specs.Selecting.{Selection, all, selected, rangeSelector, entrySelector, describedRange, describedEntries, described, isRangeDescriptor, isEntryDescriptor, fromClock, toClock, goodRange, fromEntry, toEntry, fromColumn, toColumn, picking, faulty, numbered, dated}
-use Rattle.model.specs.State.{Association, Entry, Line, Body, Model}
-use Rattle.model.specs.Soundness.{acceptedRegisters, acceptedColumns, soundnessTests}
-use Rattle.model.specs.Objects.{Object, Meaning, known, unknown, meaning, serves, Service, get, action, Request, Parameter, these, wrong, pickedBy, attributeData, entries, entriesWrong, rowsBetween, lastEntry, rowsWithin, selectedRows, fitting, shown, attributeRead, goodParameter, methodInvoked, granted, denied}
+use Rattle.model.specs.Selecting.{Selection, all, selected, Picking, whole, Described, rangeSelector, entrySelector, describedRange, describedEntries, described, isRangeDescriptor, isEntryDescriptor, fromClock, toClock, goodRange, fromEntry, toEntry, fromColumn, toColumn, picking, faulty, numbered, dated}
+use Rattle.model.specs.State.{Association, Entry, profile, Transfer, idle, running, ended, runs, Line, Body, Model}
+use Rattle.model.specs.Soundness.{acceptedRegisters, acceptedColumns, kindsKnown, linksStand, servicesOffered, soundnessTests}
+use Rattle.model.specs.Objects.{Content, simple, rows, recordNumber, register, Object, Meaning, known, unknown, meaning, serves, Service, get, action, Request, Inquiry, Parameter, these, wrong, takesSelector, pickedBy, attributeData, entries, entriesWrong, rowsBetween, lastEntry, rowsWithin, selectedRows, begins, fitting, shown, attributeRead, goodParameter, methodInvoked, Result, granted, begun, denied}
 use Rattle.model.specs.Calls.{Lent}
 use Rattle.hdlc.specs.declared.Head.{Head}
 use Rattle.hdlc.specs.declared.Frame.{Frame}
@@ -37,7 +37,7 @@ use Rattle.cosem.specs.declared.Tag.the-variants.{Aarq, Rlrq, PlainRequest, Glo
 use Rattle.cosem.specs.declared.ServiceKind.{ServiceKind}
 use Rattle.cosem.specs.declared.ServiceKind.the-variants.{Get, Set, Action}
 use Rattle.cosem.specs.declared.Reading.{Reading}
-use Rattle.cosem.specs.declared.Reading.the-variants.{Asks, Malformed}
+use Rattle.cosem.specs.declared.Reading.the-variants.{Asks, GoesOn, Malformed}
 use Rattle.cosem.specs.Tags.{dedicatedTag, tagIn, isRelease}
 use Rattle.cosem.specs.Requests.{readAction, readService, requested}
 use Rattle.acse.specs.Aarq.{readAarq}
@@ -47,16 +47,16 @@ use Rattle.envelope.specs.declared.Shape.{Shape}
 use Rattle.envelope.specs.declared.Shape.the-variants.{Misshapen, Shaped}
 use Rattle.envelope.specs.Opening.{shapeOf, Opened, fails as stays, opens, openedBy, opened}
 use Rattle.protocol.specs.declared.Secrets.{Secrets}
-use Rattle.protocol.specs.Clients.{ciphering, peer, counters, agreedIn, selectiveIn, lentKeys, dedicatedKeys, isPending, isAssociated, permitted, bitAgreed, isUnknown}
+use Rattle.protocol.specs.Clients.{ciphering, peer, counters, agreedIn, selectiveIn, blocksIn, lentKeys, dedicatedKeys, isPending, isAssociated, permitted, bitAgreed, isUnknown}
 use Rattle.protocol.specs.Decide.{isChallenge, provesItself, secretsOf}
 use Rattle.call_tests.specs.declared.LineTest.the-variants.{LinkUpWithInformation, P5HoldsV, LinkDownWhileDown, DataWhileDown, UnknownTag, TagNotPermitted, BitNotAgreed, AarqNotAccepted, EnvelopeShape, EnvelopeTag, CounterWindow, MalformedApdu, NotTheChallenge, WrongProof}
 use Rattle.call_tests.specs.declared.BodyTest.{BodyTest}
-use Rattle.call_tests.specs.declared.BodyTest.the-variants.{NameUnknown, ClassWrong, NotServed, ParameterShape, EntriesWrong, RangeWrong, AnswerTooLong}
+use Rattle.call_tests.specs.declared.BodyTest.the-variants.{NameUnknown, ClassWrong, NotServed, ParameterShape, EntriesWrong, RangeWrong, AnswerTooLong, TransferEnded, NoTransfer, BlockNumber}
 use Rattle.call_tests.specs.declared.CallTest.the-variants.{Lent as OfLent, Sound as OfState, Frame as OfFrame, Line as OfLine, Body as OfBody}
 use Rattle.call_tests.specs.declared.Finding.{Finding}
 use Rattle.call_tests.specs.declared.Finding.the-variants.{Fails, Passes}
-use Rattle.call_tests.specs.Tests.{lentTests, lineTests, bodyTests, onApdu, onAarq, onOpened, onEnvelope, onShaped, malformedIn, onAnswer, isMisshapen, forged, isMalformed, onAsks, onRequest, aarqAccepted, lineFails, isNothing, onObject, isServed, isShaped, belongs, selectionShaped, badEntries, badRange, onSelector, tooLong, answersTooLong, bodyFails, callFails, firstFailing, found}
-use Rattle.call_tests.specs.Road.{fault, linkUpFinds, linkDownFinds, selectorWrong, codeTest, resultFinds, serviceFinds, bodyFinds, askedFinds, answerFinds, openedFinds, shapeFinds, envelopeFinds, challengeFinds, requestFinds, aarqFinds, releaseFinds, byTagFinds, testedFinds, carriedFinds, heardFinds, orElse, lentFinds, stateFinds, unsound, rowsFinds, bodyStateFinds, lineStateFinds, roadFinds}
+use Rattle.call_tests.specs.Tests.{lentTests, lineTests, bodyTests, onApdu, onAarq, onOpened, onEnvelope, onShaped, malformedIn, onAnswer, isMisshapen, forged, isMalformed, onAsks, onInquiry, onRequest, aarqAccepted, lineFails, isNothing, onObject, isServed, isShaped, belongs, selectionShaped, badEntries, badRange, onSelector, tooLong, answersTooLong, isEnded, isIdle, onRunning, inquiryFails, callFails, firstFailing, found}
+use Rattle.call_tests.specs.Road.{fault, linkUpFinds, linkDownFinds, selectorWrong, codeTest, resultFinds, serviceFinds, bodyFinds, numberFinds, askedFinds, answerFinds, openedFinds, shapeFinds, envelopeFinds, challengeFinds, requestFinds, aarqFinds, releaseFinds, byTagFinds, testedFinds, carriedFinds, heardFinds, orElse, lentFinds, stateFinds, unsound, rowsFinds, bodyStateFinds, lineStateFinds, transferFinds, roadFinds}
 use Rattle.call_tests.proofs.TestLaws.{in-stretches, else-cond, else-three, else-none}
 
 -- a test of the body fails
@@ -64,6 +64,17 @@ abbrev bodyFault : BodyTest → Finding
 bodyFault t = Fails (OfBody t)
 
 -- The body.
+
+-- a read that rows were picked for begins a transfer where it is one of attribute 2 of the profile
+pub begins-runs : (x : Content) (a : ℕ) (p : Picking) → runs (begins x a (picking p)) ≡ takesSelector x a
+begins-runs (simple x) a p = refl
+begins-runs rows a p = go (eqb a 2)
+  where
+    go : (y : Bool) → runs (cond y (running (profile p) 1) idle) ≡ y
+    go true = refl
+    go false = refl
+begins-runs recordNumber a p = refl
+begins-runs (register r) a p = refl
 
 module _ (q : Request) (b : Body) where
   -- what the list comes to for a request whose name means w and that wants v
@@ -78,48 +89,67 @@ module _ (q : Request) (b : Body) where
       (cond (onObject w (λ o. answersTooLong q o b v)) (bodyFault AnswerTooLong) Passes))))))
 
   module _ (o : Object) (attribute : ℕ) where
-    -- rows were picked: they fit, or not
-    these-fit : (t : BodyTest) (rs : List Entry) → cond (tooLong q o attribute b (these rs)) (bodyFault AnswerTooLong) Passes ≡ resultFinds t (fitting (attributeData (o .content) (q .name) attribute rs b))
+    -- what the read comes to that is described so
+    abbrev shownBy : Described → Result
+    shownBy d = shown (q .blocks) (begins (o .content) attribute d) (o .content) (q .name) attribute b (pickedBy d (b .store .rows))
+
+    -- rows were picked: they fit, they go out in blocks, or neither
+    these-fit : (t : BodyTest) (p : Picking) (rs : List Entry)
+        → cond (tooLong q o attribute b (these rs)) (bodyFault AnswerTooLong) Passes
+        ≡ resultFinds t (fitting (q .blocks) (begins (o .content) attribute (picking p)) (attributeData (o .content) (q .name) attribute rs b))
     unfolding fitting codeTest
-    these-fit t rs = go (leb (length (attributeData (o .content) (q .name) attribute rs b)) (dataRoom longestSent))
+    these-fit t p rs = go (leb (length bytes) (dataRoom longestSent)) (q .blocks) (takesSelector (o .content) attribute) (runs begun-by) (sym (begins-runs (o .content) attribute p))
       where
-        go : (x : Bool) → cond (not x) (bodyFault AnswerTooLong) Passes ≡ resultFinds t (cond x (granted (attributeData (o .content) (q .name) attribute rs b)) (denied 250))
-        go true = refl
-        go false = refl
+        bytes : List ℕ
+        bytes = attributeData (o .content) (q .name) attribute rs b
+
+        begun-by : Transfer
+        begun-by = begins (o .content) attribute (picking p)
+
+        go : (x y z r : Bool) → z ≡ r
+            → cond (not x && not (z && y)) (bodyFault AnswerTooLong) Passes
+            ≡ resultFinds t (cond x (granted bytes) (cond (y && r) (begun begun-by bytes) (denied 250)))
+        go true y z r e = refl
+        go false true true true e = refl
+        go false true false false e = refl
+        go false true true false e = absurd (false≢true (sym e))
+        go false true false true e = absurd (false≢true e)
+        go false false true r e = refl
+        go false false false r e = refl
 
     -- a range that has its shape, and entries that have theirs
     range-road : (v : List ℕ)
         → cond (badRange v) (bodyFault RangeWrong) (cond (tooLong q o attribute b (pickedBy (describedRange (fromClock v) (toClock v)) (b .store .rows))) (bodyFault AnswerTooLong) Passes)
-        ≡ resultFinds RangeWrong (shown (o .content) (q .name) attribute b (pickedBy (describedRange (fromClock v) (toClock v)) (b .store .rows)))
+        ≡ resultFinds RangeWrong (shownBy (describedRange (fromClock v) (toClock v)))
     unfolding codeTest describedRange
     range-road v = go (goodRange (fromClock v) (toClock v))
       where
         go : (g : Bool)
             → cond (not g) (bodyFault RangeWrong) (cond (tooLong q o attribute b (pickedBy (cond g (picking (dated (fromClock v) (toClock v))) (faulty 13)) (b .store .rows))) (bodyFault AnswerTooLong) Passes)
-            ≡ resultFinds RangeWrong (shown (o .content) (q .name) attribute b (pickedBy (cond g (picking (dated (fromClock v) (toClock v))) (faulty 13)) (b .store .rows)))
-        go true = these-fit RangeWrong (rowsWithin (fromClock v) (toClock v) (b .store .rows))
+            ≡ resultFinds RangeWrong (shownBy (cond g (picking (dated (fromClock v) (toClock v))) (faulty 13)))
+        go true = these-fit RangeWrong (dated (fromClock v) (toClock v)) (rowsWithin (fromClock v) (toClock v) (b .store .rows))
         go false = refl
 
-    numbered-road : (rs : List Entry) (w : Bool)
+    numbered-road : (p : Picking) (rs : List Entry) (w : Bool)
         → cond w (bodyFault EntriesWrong) (cond (tooLong q o attribute b (cond w (wrong 13) (these rs))) (bodyFault AnswerTooLong) Passes)
-        ≡ resultFinds EntriesWrong (shown (o .content) (q .name) attribute b (cond w (wrong 13) (these rs)))
+        ≡ resultFinds EntriesWrong (shown (q .blocks) (begins (o .content) attribute (picking p)) (o .content) (q .name) attribute b (cond w (wrong 13) (these rs)))
     unfolding codeTest
-    numbered-road rs true = refl
-    numbered-road rs false = these-fit EntriesWrong rs
+    numbered-road p rs true = refl
+    numbered-road p rs false = these-fit EntriesWrong p rs
 
     entries-road : (v : List ℕ)
         → cond (badEntries (length (b .store .rows)) v) (bodyFault EntriesWrong) (cond (tooLong q o attribute b (pickedBy (describedEntries v) (b .store .rows))) (bodyFault AnswerTooLong) Passes)
-        ≡ resultFinds EntriesWrong (shown (o .content) (q .name) attribute b (pickedBy (describedEntries v) (b .store .rows)))
+        ≡ resultFinds EntriesWrong (shownBy (describedEntries v))
     unfolding codeTest describedEntries entries
     entries-road v = go (eqb (fromColumn v) 1 && eqb (toColumn v) 0)
       where
         go : (g : Bool)
             → cond (not g || entriesWrong (fromEntry v) (toEntry v) (length (b .store .rows))) (bodyFault EntriesWrong)
             (cond (tooLong q o attribute b (pickedBy (cond g (picking (numbered (fromEntry v) (toEntry v))) (faulty 13)) (b .store .rows))) (bodyFault AnswerTooLong) Passes)
-            ≡ resultFinds EntriesWrong (shown (o .content) (q .name) attribute b (pickedBy (cond g (picking (numbered (fromEntry v) (toEntry v))) (faulty 13)) (b .store .rows)))
+            ≡ resultFinds EntriesWrong (shownBy (cond g (picking (numbered (fromEntry v) (toEntry v))) (faulty 13)))
         go false = refl
         go true =
-            numbered-road (rowsBetween (fromEntry v) (lastEntry (toEntry v) (length (b .store .rows))) (b .store .rows))
+            numbered-road (numbered (fromEntry v) (toEntry v)) (rowsBetween (fromEntry v) (lastEntry (toEntry v) (length (b .store .rows))) (b .store .rows))
             (entriesWrong (fromEntry v) (toEntry v) (length (b .store .rows)))
 
     -- the tests from the parameter on, of a selector's value: x and y say which selector it is, u and w whether the value has its shape
@@ -128,7 +158,7 @@ module _ (q : Request) (b : Body) where
         (cond (y && badEntries (length (b .store .rows)) v) (bodyFault EntriesWrong)
         (cond (x && badRange v) (bodyFault RangeWrong)
         (cond (tooLong q o attribute b (pickedBy (cond (belonging && x && u) (describedRange (fromClock v) (toClock v)) (cond (belonging && y && w) (describedEntries v) (faulty 12))) (b .store .rows))) (bodyFault AnswerTooLong) Passes)))
-        ≡ resultFinds (cond x RangeWrong EntriesWrong) (shown (o .content) (q .name) attribute b (pickedBy (cond (belonging && x && u) (describedRange (fromClock v) (toClock v)) (cond (belonging && y && w) (describedEntries v) (faulty 12))) (b .store .rows)))
+        ≡ resultFinds (cond x RangeWrong EntriesWrong) (shownBy (cond (belonging && x && u) (describedRange (fromClock v) (toClock v)) (cond (belonging && y && w) (describedEntries v) (faulty 12))))
     unfolding codeTest
     selected-road v false x y u w n = refl
     selected-road v true true true u w n = absurd (false≢true (sym (n refl)))
@@ -144,9 +174,9 @@ module _ (q : Request) (b : Body) where
         (cond (onSelector entrySelector (get attribute s) (badEntries (length (b .store .rows)))) (bodyFault EntriesWrong)
         (cond (onSelector rangeSelector (get attribute s) badRange) (bodyFault RangeWrong)
         (cond (tooLong q o attribute b (selectedRows (belongs q o attribute) s (b .store .rows))) (bodyFault AnswerTooLong) Passes)))
-        ≡ resultFinds (selectorWrong s) (shown (o .content) (q .name) attribute b (selectedRows (belongs q o attribute) s (b .store .rows)))
+        ≡ resultFinds (selectorWrong s) (shownBy (described (belongs q o attribute) s))
     unfolding described
-    selection-road all = these-fit EntriesWrong (b .store .rows)
+    selection-road all = these-fit EntriesWrong whole (b .store .rows)
     selection-road (selected k v) =
         selected-road v (belongs q o attribute) (eqb k rangeSelector) (eqb k entrySelector) (isRangeDescriptor v) (isEntryDescriptor v)
         (λ e. let n = eqb-true k rangeSelector e in ne-eqb k entrySelector (λ r. omega arith))
@@ -163,7 +193,7 @@ module _ (q : Request) (b : Body) where
           (cond (onSelector entrySelector (get attribute s) (badEntries (length (b .store .rows)))) (bodyFault EntriesWrong)
           (cond (onSelector rangeSelector (get attribute s) badRange) (bodyFault RangeWrong)
           (cond (tooLong q o attribute b (selectedRows (belongs q o attribute) s (b .store .rows))) (bodyFault AnswerTooLong) Passes)))))
-          ≡ resultFinds (selectorWrong s) (cond (not x) (denied 9) (cond (not y) (denied 3) (shown (o .content) (q .name) attribute b (selectedRows (belongs q o attribute) s (b .store .rows)))))
+          ≡ resultFinds (selectorWrong s) (cond (not x) (denied 9) (cond (not y) (denied 3) (shownBy o attribute (described (belongs q o attribute) s))))
       go false y = refl
       go true false = refl
       go true true = selection-road o attribute s
@@ -188,6 +218,37 @@ module _ (q : Request) (b : Body) where
   pub body-road : bodyStretch (meaning (q .client) (q .name) (b .store .registers)) (q .service) ≡ bodyFinds b q
   unfolding bodyFinds
   body-road = service-road (meaning (q .client) (q .name) (b .store .registers)) (q .service)
+
+-- A numbered request.
+
+-- the tests of the body, by the transfer
+pub number-road : (n : ℕ) (t : Transfer)
+    → cond (isEnded t) (bodyFault TransferEnded) (cond (isIdle t) (bodyFault NoTransfer) (cond (onRunning t (λ k. not (eqb n k))) (bodyFault BlockNumber) Passes))
+    ≡ numberFinds n t
+number-road n idle = refl
+number-road n ended = refl
+number-road n (running x k) = go (eqb n k)
+  where
+    go : (y : Bool) → cond (not y) (bodyFault BlockNumber) Passes ≡ cond y Passes (bodyFault BlockNumber)
+    go true = refl
+    go false = refl
+
+-- and by the bit; the tests that are not about it pass
+bit-road : (n : ℕ) (t : Transfer) (y : Bool)
+    → orElse (cond (not y) (fault MalformedApdu) Passes)
+    (cond (y && false) (bodyFault NameUnknown)
+    (cond (y && false) (bodyFault ClassWrong)
+    (cond (y && false) (bodyFault NotServed)
+    (cond (y && false) (bodyFault ParameterShape)
+    (cond (y && false) (bodyFault EntriesWrong)
+    (cond (y && false) (bodyFault RangeWrong)
+    (cond (y && false) (bodyFault AnswerTooLong)
+    (cond (y && isEnded t) (bodyFault TransferEnded)
+    (cond (y && isIdle t) (bodyFault NoTransfer)
+    (cond (y && onRunning t (λ k. not (eqb n k))) (bodyFault BlockNumber) Passes))))))))))
+    ≡ cond y (numberFinds n t) (fault MalformedApdu)
+bit-road n t true = number-road n t
+bit-road n t false = refl
 
 -- Envelopes.
 
@@ -244,15 +305,18 @@ module _ (l : Line) (b : Body) (a : Secrets) where
       (cond (onAnswer l a c s t (λ d counter text q. not (provesItself l a d counter text q))) (fault WrongProof) Passes))))))
 
   -- the tests of the body, where the call is about a request
-  abbrev requestStretch : ((Request → Bool) → Bool) → Finding
+  abbrev requestStretch : ((Inquiry → Bool) → Bool) → Finding
   requestStretch on =
-      cond (on (λ q. bodyFails q b NameUnknown)) (bodyFault NameUnknown)
-      (cond (on (λ q. bodyFails q b ClassWrong)) (bodyFault ClassWrong)
-      (cond (on (λ q. bodyFails q b NotServed)) (bodyFault NotServed)
-      (cond (on (λ q. bodyFails q b ParameterShape)) (bodyFault ParameterShape)
-      (cond (on (λ q. bodyFails q b EntriesWrong)) (bodyFault EntriesWrong)
-      (cond (on (λ q. bodyFails q b RangeWrong)) (bodyFault RangeWrong)
-      (cond (on (λ q. bodyFails q b AnswerTooLong)) (bodyFault AnswerTooLong) Passes))))))
+      cond (on (λ q. inquiryFails q b NameUnknown)) (bodyFault NameUnknown)
+      (cond (on (λ q. inquiryFails q b ClassWrong)) (bodyFault ClassWrong)
+      (cond (on (λ q. inquiryFails q b NotServed)) (bodyFault NotServed)
+      (cond (on (λ q. inquiryFails q b ParameterShape)) (bodyFault ParameterShape)
+      (cond (on (λ q. inquiryFails q b EntriesWrong)) (bodyFault EntriesWrong)
+      (cond (on (λ q. inquiryFails q b RangeWrong)) (bodyFault RangeWrong)
+      (cond (on (λ q. inquiryFails q b AnswerTooLong)) (bodyFault AnswerTooLong)
+      (cond (on (λ q. inquiryFails q b TransferEnded)) (bodyFault TransferEnded)
+      (cond (on (λ q. inquiryFails q b NoTransfer)) (bodyFault NoTransfer)
+      (cond (on (λ q. inquiryFails q b BlockNumber)) (bodyFault BlockNumber) Passes)))))))))
 
   aarq-road : (c : Client) (s : List ℕ) → cond (not (aarqAccepted l a c s (readAarq s c (peer c l .title)))) (fault AarqNotAccepted) Passes ≡ aarqFinds l a c s
   unfolding aarqFinds
@@ -271,15 +335,17 @@ module _ (l : Line) (b : Body) (a : Secrets) where
       go false = refl
 
   asked-road : (c : Client) (text : List ℕ) (r : Reading)
-      → orElse (cond (isMalformed r) (fault MalformedApdu) Passes) (requestStretch (λ g. onAsks r (λ q. g (requested c (selectiveIn c l) text q)))) ≡ askedFinds l b c text r
+      → orElse (cond (isMalformed (blocksIn c l) r) (fault MalformedApdu) Passes) (requestStretch (onInquiry l c text r)) ≡ askedFinds l b c text r
   asked-road c text Malformed = refl
-  asked-road c text (Asks q) = body-road (requested c (selectiveIn c l) text q) b
+  asked-road c text (Asks q) = body-road (requested c (selectiveIn c l) (blocksIn c l) text q) b
+  asked-road c text (GoesOn i n) = bit-road n (b .transfer) (blocksIn c l)
 
   answer-road : (c : CipherClient) (counter : ℕ) (text : List ℕ) (r : Reading)
-      → cond (isMalformed r) (fault MalformedApdu)
+      → cond (isMalformed false r) (fault MalformedApdu)
       (cond (onAsks r (λ q. not (isChallenge c text q))) (fault NotTheChallenge) (cond (onAsks r (λ q. not (provesItself l a c counter text q))) (fault WrongProof) Passes))
       ≡ answerFinds l a c counter text r
   answer-road c counter text Malformed = refl
+  answer-road c counter text (GoesOn i n) = refl
   answer-road c counter text (Asks q) = go (isChallenge c text q) (provesItself l a c counter text q)
     where
       go : (x y : Bool) → cond (not x) (fault NotTheChallenge) (cond (not y) (fault WrongProof) Passes) ≡ cond x (cond y Passes (fault WrongProof)) (fault NotTheChallenge)
@@ -293,7 +359,7 @@ module _ (l : Line) (b : Body) (a : Secrets) where
       else-none (tagStretch (Ciphering c) s GlobalAction)
       ∙ envelope-road c (lentKeys a) 0xCB s
       (λ o.
-      cond (onOpened o (λ counter text. isMalformed (readAction text))) (fault MalformedApdu)
+      cond (onOpened o (λ counter text. isMalformed false (readAction text))) (fault MalformedApdu)
       (cond (onOpened o (λ counter text. onAsks (readAction text) (λ q. not (isChallenge c text q)))) (fault NotTheChallenge)
       (cond (onOpened o (λ counter text. onAsks (readAction text) (λ q. not (provesItself l a c counter text q)))) (fault WrongProof) Passes)))
       (λ counter text. answerFinds l a c counter text (readAction text))
@@ -308,11 +374,11 @@ module _ (l : Line) (b : Body) (a : Secrets) where
       let text : Opened = opened keys (ciphering c l .peer .title) (dedicatedTag k) s in
       else-three (isMisshapen shape) (onShaped shape (forged keys (ciphering c l .peer .title) s)) (onShaped shape (λ n i j. not (inWindow (counters c l .accepted) n)))
       (OfLine EnvelopeShape) (OfLine EnvelopeTag) (OfLine CounterWindow)
-      (cond (onOpened text (λ n x. isMalformed (readService k x))) (fault MalformedApdu) Passes) (requestStretch (onRequest l a (Ciphering c) s (DedicatedRequest k)))
+      (cond (onOpened text (λ n x. isMalformed (blocksIn (Ciphering c) l) (readService k x))) (fault MalformedApdu) Passes) (requestStretch (onRequest l a (Ciphering c) s (DedicatedRequest k)))
       ∙ envelope-road c keys (dedicatedTag k) s
       (λ o.
-      orElse (cond (onOpened o (λ n x. isMalformed (readService k x))) (fault MalformedApdu) Passes)
-      (requestStretch (λ g. onOpened o (λ n x. onAsks (readService k x) (λ q. g (requested (Ciphering c) (selectiveIn (Ciphering c) l) x q))))))
+      orElse (cond (onOpened o (λ n x. isMalformed (blocksIn (Ciphering c) l) (readService k x))) (fault MalformedApdu) Passes)
+      (requestStretch (λ g. onOpened o (λ n x. onInquiry l (Ciphering c) x (readService k x) g))))
       (λ n x. askedFinds l b (Ciphering c) x (readService k x))
       (λ n x. asked-road (Ciphering c) x (readService k x))
 
@@ -461,13 +527,15 @@ module _ (m : Model) (a : Lent) where
   unfolding firstFailing
   rest-is = refl
 
-  -- the state's stretch is that of the body, then that of the line
-  pub state-road : stateFinds m a ≡ orElse (bodyStateFinds (m .body)) (lineStateFinds (m .line))
-  unfolding stateFinds bodyStateFinds rowsFinds lineStateFinds firstFailing
+  -- the state's stretch is that of the body, then that of the line, then the transfer's
+  pub state-road : stateFinds m a ≡ orElse (bodyStateFinds (m .body)) (orElse (lineStateFinds (m .line)) (transferFinds (m .line) (m .body)))
+  unfolding stateFinds bodyStateFinds rowsFinds lineStateFinds transferFinds firstFailing
   state-road =
       go (acceptedRegisters (m .body .store .registers)) (acceptedColumns (m .body .store .registers) (m .body .store .columns)) (permittedPeriod (m .body .period)) (validClock (m .body .clock))
       (every (λ i r. validClock (r .clock)) 0 (m .body .store .rows)) (leb (length (m .body .store .rows)) maxRows) (every (λ i r. eqb (length (r .cells)) (length (m .body .store .columns))) 0 (m .body .store .rows))
-      (lineStateFinds (m .line))
+      (cond (not (kindsKnown (m .line))) (unsound AssociationKind) (cond (not (linksStand (m .line))) (unsound AssociationOnLink) (cond (not (servicesOffered (m .line))) (unsound AgreedServices) (transferFinds (m .line) (m .body)))))
+      ∙ ap (orElse (bodyStateFinds (m .body)))
+      (sym (else-three (not (kindsKnown (m .line))) (not (linksStand (m .line))) (not (servicesOffered (m .line))) (OfState AssociationKind) (OfState AssociationOnLink) (OfState AgreedServices) Passes (transferFinds (m .line) (m .body))))
     where
       go : (x1 x2 x3 x4 x5 x6 x7 : Bool) (rest : Finding)
           → cond (not x1) (unsound RegisterList) (cond (not x2) (unsound ColumnList) (cond (not x3) (unsound PeriodPermitted) (cond (not x4) (unsound ClockValid) (cond (not x5) (unsound RowClocksValid) (cond (not x6) (unsound RowCount) (cond (not x7) (unsound RowCells) rest))))))

@@ -11,14 +11,15 @@ use lib.Text.{eqt}
 use Rattle.model.specs.Limits.{longestSent, replyRoom}
 use Rattle.model.specs.State.{Body, Model}
 use Rattle.model.specs.Soundness.{sound}
-use Rattle.model.specs.Objects.{Meaning, meaning, Service, get, action, Request, Result, denied, attributeRead, methodInvoked}
+use Rattle.model.specs.Objects.{Meaning, meaning, Service, get, action, Request, Inquiry, ask, goOn, Result, denied, attributeRead, methodInvoked, turned}
 use Rattle.model.specs.Calls.{Lent, frame, step}
+use Rattle.model.specs.Blocks.{refusedBy}
 use Rattle.protocol.specs.Decide.{p2}
 use Rattle.call_tests.specs.declared.BodyTest.{BodyTest}
 use Rattle.call_tests.specs.declared.CallTest.{CallTest}
 use Rattle.call_tests.specs.declared.CallTest.the-variants.{Lent as OfLent, Sound as OfState, Frame as OfFrame, Line as OfLine, Body as OfBody}
 use Rattle.call_tests.specs.declared.Finding.the-variants.{Fails, Passes}
-use Rattle.call_tests.specs.Tests.{bodyFails, bodyTests, callFails, callTests, firstFailing, found}
+use Rattle.call_tests.specs.Tests.{inquiryFails, bodyTests, callFails, callTests, firstFailing, found}
 use Rattle.call_tests.specs.Lines.{numberOf, codeOf, numberFound, nameOf, nameFound, letters, lineFound}
 
 -- The order.
@@ -98,19 +99,23 @@ resultOf q b w (get attribute s) = attributeRead q attribute s b w
 resultOf q b w (action method v) = methodInvoked q method v w
 
 -- a request by itself fails tests of the body alone
-abbrev pub requestFails : Request → Body → CallTest → Bool
+abbrev pub requestFails : Inquiry → Body → CallTest → Bool
 requestFails q b (OfLent t) = false
 requestFails q b (OfState t) = false
 requestFails q b (OfFrame t) = false
 requestFails q b (OfLine t) = false
-requestFails q b (OfBody t) = bodyFails q b t
+requestFails q b (OfBody t) = inquiryFails q b t
 
--- a request is denied by the code of the first test that it fails
-abbrev pub CodesRight : Type 0
-CodesRight =
-    (q : Request) (b : Body) (t : BodyTest)
-    → firstFailing (requestFails q b) (map OfBody bodyTests) ≡ Fails (OfBody t)
-    → resultOf q b (meaning (q .client) (q .name) (b .store .registers)) (q .service) ≡ denied (codeOf t)
+-- a request is denied by the code of the first test that it fails; a numbered request by a block with this code
+pub record CodesRight : Type 0 where
+  pub request :
+      (q : Request) (b : Body) (t : BodyTest)
+      → firstFailing (requestFails (ask q) b) (map OfBody bodyTests) ≡ Fails (OfBody t)
+      → resultOf q b (meaning (q .client) (q .name) (b .store .registers)) (q .service) ≡ denied (codeOf t)
+  pub numbered :
+      (i n : ℕ) (b : Body) (t : BodyTest)
+      → firstFailing (requestFails (goOn i n) b) (map OfBody bodyTests) ≡ Fails (OfBody t)
+      → turned (goOn i n) b ≡ refusedBy (codeOf t) i n b
 
 -- The example.
 

@@ -8,7 +8,7 @@ use Prim.Native.Char.{code}
 use lib.Dec.{ltb}
 use Rattle.io.specs.Digits.{digits}
 use Rattle.model.specs.declared.SoundnessTest.{SoundnessTest}
-use Rattle.model.specs.declared.SoundnessTest.the-variants.{RegisterList, ColumnList, PeriodPermitted, ClockValid, RowClocksValid, RowCount, RowCells, AssociationKind, AssociationOnLink, AgreedServices}
+use Rattle.model.specs.declared.SoundnessTest.the-variants.{RegisterList, ColumnList, PeriodPermitted, ClockValid, RowClocksValid, RowCount, RowCells, AssociationKind, AssociationOnLink, AgreedServices, TransferPossible}
 use Rattle.hdlc.specs.declared.FrameTest.{FrameTest}
 use Rattle.hdlc.specs.declared.FrameTest.the-variants.{ShortFrame, FlagMissing, FrameType, LengthMismatch, LengthEightOrNine, WrongFcs, WrongHcs, EvenAddress, FrmrReceived, OverLength, SegmentBit, PfClear, WrongDestination, WrongSource, UnknownControl, LinkDownWithInformation, ShortInformation, WrongLlc}
 use Rattle.hdlc.specs.declared.Place.{Place}
@@ -19,7 +19,7 @@ use Rattle.call_tests.specs.declared.LentTest.the-variants.{ReplyRoom, G
 use Rattle.call_tests.specs.declared.LineTest.{LineTest}
 use Rattle.call_tests.specs.declared.LineTest.the-variants.{LinkUpWithInformation, P5HoldsV, LinkDownWhileDown, DataWhileDown, UnknownTag, TagNotPermitted, BitNotAgreed, AarqNotAccepted, EnvelopeShape, EnvelopeTag, CounterWindow, MalformedApdu, NotTheChallenge, WrongProof}
 use Rattle.call_tests.specs.declared.BodyTest.{BodyTest}
-use Rattle.call_tests.specs.declared.BodyTest.the-variants.{NameUnknown, ClassWrong, NotServed, ParameterShape, EntriesWrong, RangeWrong, AnswerTooLong}
+use Rattle.call_tests.specs.declared.BodyTest.the-variants.{NameUnknown, ClassWrong, NotServed, ParameterShape, EntriesWrong, RangeWrong, AnswerTooLong, TransferEnded, NoTransfer, BlockNumber}
 use Rattle.call_tests.specs.declared.CallTest.{CallTest}
 use Rattle.call_tests.specs.declared.CallTest.the-variants.{Lent as OfLent, Sound as OfState, Frame as OfFrame, Line as OfLine, Body as OfBody}
 use Rattle.call_tests.specs.declared.Finding.{Finding}
@@ -56,7 +56,7 @@ numberOf (OfFrame t) = frameNumber t
 numberOf (OfLine t) = lineNumber t
 numberOf (OfBody t) = 13
 
--- the result code in the answer to a request that is denied
+-- the result code in the answer to a request that is denied, and in the block that a numbered request is refused by
 abbrev pub codeOf : BodyTest → ℕ
 codeOf NameUnknown = 4
 codeOf ClassWrong = 9
@@ -65,6 +65,9 @@ codeOf ParameterShape = 12
 codeOf EntriesWrong = 13
 codeOf RangeWrong = 13
 codeOf AnswerTooLong = 250
+codeOf TransferEnded = 15
+codeOf NoTransfer = 16
+codeOf BlockNumber = 19
 
 abbrev pub numberFound : Finding → ℕ
 numberFound (Fails t) = numberOf t
@@ -89,6 +92,7 @@ stateName RowCells = "row-cells"
 stateName AssociationKind = "association-kind"
 stateName AssociationOnLink = "association-without-link"
 stateName AgreedServices = "agreed-services"
+stateName TransferPossible = "transfer"
 
 abbrev pub frameName : FrameTest → String
 frameName ShortFrame = "short-frame"
@@ -134,6 +138,9 @@ bodyName ParameterShape = "parameter-shape"
 bodyName EntriesWrong = "entries-wrong"
 bodyName RangeWrong = "range-wrong"
 bodyName AnswerTooLong = "answer-too-long"
+bodyName TransferEnded = "transfer-ended"
+bodyName NoTransfer = "no-transfer"
+bodyName BlockNumber = "block-number"
 
 abbrev pub nameOf : CallTest → String
 nameOf (OfLent t) = lentName t

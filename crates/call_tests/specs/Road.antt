@@ -1,7 +1,7 @@
 -- The tests on the road that the code goes: what a frame comes to, step by step, in the order of crate protocol's rulings. The functions
 -- of the crate diagnosis promise each other these; that they come to the first failing test of the list is proved in proofs/Road, and no
 -- claim rests on the reader's belief in them.
-use mathlib.Core.Bool.{Bool, not, cond}
+use mathlib.Core.Bool.{Bool, not, cond, _&&_}
 use mathlib.Core.List.{List, map}
 use Prim.Native.Nat.{ℕ}
 use lib.Dec.{eqb, leb}
@@ -11,15 +11,15 @@ use Rattle.model.specs.declared.Client.{Client}
 use Rattle.model.specs.declared.Client.the-variants.{Verification, Ciphering}
 use Rattle.model.specs.declared.CipherClient.{CipherClient}
 use Rattle.model.specs.declared.SoundnessTest.{SoundnessTest}
-use Rattle.model.specs.declared.SoundnessTest.the-variants.{RegisterList, ColumnList, PeriodPermitted, ClockValid, RowClocksValid, RowCount, RowCells, AssociationKind, AssociationOnLink, AgreedServices}
+use Rattle.model.specs.declared.SoundnessTest.the-variants.{RegisterList, ColumnList, PeriodPermitted, ClockValid, RowClocksValid, RowCount, RowCells, AssociationKind, AssociationOnLink, AgreedServices, TransferPossible}
 use Rattle.model.specs.Limits.{maxRows}
 use Rattle.model.specs.Names.{every}
 use Rattle.model.specs.Clocks.{validClock}
 use Rattle.model.specs.Periods.{permittedPeriod}
 use Rattle.model.specs.Selecting.{Selection, all, selected, rangeSelector}
-use Rattle.model.specs.State.{Line, Body, Model}
-use Rattle.model.specs.Soundness.{acceptedRegisters, acceptedColumns, kindsKnown, linksStand, servicesOffered, soundnessTests}
-use Rattle.model.specs.Objects.{Meaning, meaning, Service, get, action, Request, Result, granted, denied, attributeRead, methodInvoked}
+use Rattle.model.specs.State.{Transfer, idle, running, ended, Line, Body, Model}
+use Rattle.model.specs.Soundness.{acceptedRegisters, acceptedColumns, kindsKnown, linksStand, servicesOffered, allowed, goesOn, soundnessTests}
+use Rattle.model.specs.Objects.{Meaning, meaning, Service, get, action, Request, Result, granted, begun, denied, attributeRead, methodInvoked}
 use Rattle.model.specs.Calls.{Lent}
 use Rattle.hdlc.specs.declared.Frame.{Frame}
 use Rattle.hdlc.specs.declared.Frame.the-variants.{Unanswered, Rejected, LinkUp, LinkDown, Apdu}
@@ -28,7 +28,7 @@ use Rattle.cosem.specs.declared.Tag.{Tag}
 use Rattle.cosem.specs.declared.Tag.the-variants.{Aarq, Rlrq, PlainRequest, GlobalAction, DedicatedRequest, Unknown}
 use Rattle.cosem.specs.declared.ServiceKind.{ServiceKind}
 use Rattle.cosem.specs.declared.Reading.{Reading}
-use Rattle.cosem.specs.declared.Reading.the-variants.{Asks, Malformed}
+use Rattle.cosem.specs.declared.Reading.the-variants.{Asks, GoesOn, Malformed}
 use Rattle.cosem.specs.Tags.{dedicatedTag, tagIn, isRelease}
 use Rattle.cosem.specs.Requests.{readAction, readService, requested}
 use Rattle.acse.specs.Aarq.{readAarq}
@@ -38,12 +38,12 @@ use Rattle.envelope.specs.declared.Shape.{Shape}
 use Rattle.envelope.specs.declared.Shape.the-variants.{Misshapen, Shaped}
 use Rattle.envelope.specs.Opening.{shapeOf, Opened, fails, opens, opened}
 use Rattle.protocol.specs.declared.Secrets.{Secrets}
-use Rattle.protocol.specs.Clients.{ciphering, peer, counters, agreedIn, selectiveIn, lentKeys, dedicatedKeys, permitted, bitAgreed, isUnknown}
+use Rattle.protocol.specs.Clients.{ciphering, peer, counters, agreedIn, selectiveIn, blocksIn, lentKeys, dedicatedKeys, permitted, bitAgreed, isUnknown}
 use Rattle.protocol.specs.Decide.{heldByP5, isChallenge, provesItself, secretsOf}
 use Rattle.call_tests.specs.declared.LineTest.{LineTest}
 use Rattle.call_tests.specs.declared.LineTest.the-variants.{LinkUpWithInformation, P5HoldsV, LinkDownWhileDown, DataWhileDown, UnknownTag, TagNotPermitted, BitNotAgreed, AarqNotAccepted, EnvelopeShape, EnvelopeTag, CounterWindow, MalformedApdu, NotTheChallenge, WrongProof}
 use Rattle.call_tests.specs.declared.BodyTest.{BodyTest}
-use Rattle.call_tests.specs.declared.BodyTest.the-variants.{NameUnknown, ClassWrong, NotServed, ParameterShape, EntriesWrong, RangeWrong, AnswerTooLong}
+use Rattle.call_tests.specs.declared.BodyTest.the-variants.{NameUnknown, ClassWrong, NotServed, ParameterShape, EntriesWrong, RangeWrong, AnswerTooLong, TransferEnded, NoTransfer, BlockNumber}
 use Rattle.call_tests.specs.declared.CallTest.the-variants.{Lent as OfLent, Sound as OfState, Frame as OfFrame, Line as OfLine, Body as OfBody}
 use Rattle.call_tests.specs.declared.Finding.{Finding}
 use Rattle.call_tests.specs.declared.Finding.the-variants.{Fails, Passes}
@@ -77,6 +77,7 @@ codeTest t c =
 
 abbrev pub resultFinds : (thirteen : BodyTest) → Result → Finding
 resultFinds t (granted d) = Passes
+resultFinds t (begun x d) = Passes
 resultFinds t (denied c) = Fails (OfBody (codeTest t c))
 
 abbrev pub serviceFinds : Request → Body → Meaning → Service → Finding
@@ -86,10 +87,18 @@ serviceFinds q b w (action method v) = resultFinds EntriesWrong (methodInvoked q
 unfoldable pub bodyFinds : Body → Request → Finding
 bodyFinds b q = serviceFinds q b (meaning (q .client) (q .name) (b .store .registers)) (q .service)
 
--- an APDU or a text that is read as a request of the client
+-- A numbered request, by the transfer.
+
+abbrev pub numberFinds : (number : ℕ) → Transfer → Finding
+numberFinds n ended = Fails (OfBody TransferEnded)
+numberFinds n idle = Fails (OfBody NoTransfer)
+numberFinds n (running x k) = cond (eqb n k) Passes (Fails (OfBody BlockNumber))
+
+-- an APDU or a text that is read as a request of the client, or as a numbered one
 abbrev pub askedFinds : Line → Body → Client → List ℕ → Reading → Finding
 askedFinds l b c text Malformed = fault MalformedApdu
-askedFinds l b c text (Asks q) = bodyFinds b (requested c (selectiveIn c l) text q)
+askedFinds l b c text (Asks q) = bodyFinds b (requested c (selectiveIn c l) (blocksIn c l) text q)
+askedFinds l b c text (GoesOn i n) = cond (blocksIn c l) (numberFinds n (b .transfer)) (fault MalformedApdu)
 
 -- The challenge.
 
@@ -97,6 +106,8 @@ abbrev pub answerFinds : Line → Secrets → CipherClient → (counter : ℕ) �
 answerFinds l a c counter text Malformed = fault MalformedApdu
 answerFinds l a c counter text (Asks q) =
     cond (isChallenge c text q) (cond (provesItself l a c counter text q) Passes (fault WrongProof)) (fault NotTheChallenge)
+-- never reached: an ACTION is no numbered request
+answerFinds l a c counter text (GoesOn i n) = fault MalformedApdu
 
 -- Envelopes.
 
@@ -172,7 +183,7 @@ lentFinds m a = firstFailing (callFails m a) (map OfLent lentTests)
 unfoldable pub stateFinds : Model → Lent → Finding
 stateFinds m a = firstFailing (callFails m a) (map OfState soundnessTests)
 
--- the state's, in its two parts
+-- the state's, in its three parts
 
 abbrev pub unsound : SoundnessTest → Finding
 unsound t = Fails (OfState t)
@@ -194,6 +205,9 @@ unfoldable pub lineStateFinds : Line → Finding
 lineStateFinds l =
     cond (not (kindsKnown l)) (unsound AssociationKind)
     (cond (not (linksStand l)) (unsound AssociationOnLink) (cond (not (servicesOffered l)) (unsound AgreedServices) Passes))
+
+unfoldable pub transferFinds : Line → Body → Finding
+transferFinds l b = cond (not (allowed l (b .transfer) && goesOn (b .store) (b .transfer))) (unsound TransferPossible) Passes
 
 unfoldable pub roadFinds : Model → Lent → Finding
 roadFinds m a =

@@ -1,6 +1,6 @@
--- The tests of a frame call (document 02, Q-2: "the test that failed .. one for each test of 01"): what a call looks like that
--- fails each, by itself and whatever the others say; and their order. A test looks at the meter and at what is lent, by the fields and
--- the readers that it is about. A call that it is not about passes it: no link-up fails a test of APDUs.
+-- The tests of a frame call (document 02, Q-2: "the test that failed .. one for each test of 01"; and those of Q-4): what a call
+-- looks like that fails each, by itself and whatever the others say; and their order. A test looks at the meter and at what is
+-- lent, by the fields and the readers that it is about. A call that it is not about passes it: no link-up fails a test of APDUs.
 use mathlib.Core.Bool.{Bool, true, false, not, cond, _&&_, _||_}
 use mathlib.Core.List.{List, [], _∷_, _++_, map}
 use Prim.Native.Nat.{ℕ}
@@ -12,9 +12,9 @@ use Rattle.model.specs.declared.Client.the-variants.{Verification, Ciphering}
 use Rattle.model.specs.declared.CipherClient.{CipherClient}
 use Rattle.model.specs.Limits.{longestSent, replyRoom, dataRoom}
 use Rattle.model.specs.Selecting.{Selection, all, selected, rangeSelector, entrySelector, isRangeDescriptor, fromClock, toClock, goodRange, isEntryDescriptor, fromEntry, toEntry, fromColumn, toColumn}
-use Rattle.model.specs.State.{Line, Body, Model}
+use Rattle.model.specs.State.{Transfer, idle, running, ended, Line, Body, Model}
 use Rattle.model.specs.Soundness.{passes, soundnessTests}
-use Rattle.model.specs.Objects.{Object, Meaning, known, unknown, meaning, serves, Service, get, action, Request, Picked, these, wrong, attributeData, entriesWrong, takesSelector, selectedRows, goodParameter}
+use Rattle.model.specs.Objects.{Object, Meaning, known, unknown, meaning, serves, Service, get, action, Request, Inquiry, ask, goOn, Picked, these, wrong, attributeData, entriesWrong, takesSelector, selectedRows, goodParameter}
 use Rattle.model.specs.Calls.{Lent}
 use Rattle.hdlc.specs.declared.Frame.{Frame}
 use Rattle.hdlc.specs.declared.Frame.the-variants.{Unanswered, Rejected, LinkUp, LinkDown, Apdu}
@@ -24,7 +24,7 @@ use Rattle.cosem.specs.declared.Tag.{Tag}
 use Rattle.cosem.specs.declared.Tag.the-variants.{Aarq, Rlrq, PlainRequest, GlobalAction, DedicatedRequest, Unknown}
 use Rattle.cosem.specs.declared.Asked.{Asked}
 use Rattle.cosem.specs.declared.Reading.{Reading}
-use Rattle.cosem.specs.declared.Reading.the-variants.{Asks, Malformed}
+use Rattle.cosem.specs.declared.Reading.the-variants.{Asks, GoesOn, Malformed}
 use Rattle.cosem.specs.Tags.{dedicatedTag, tagIn, isRelease}
 use Rattle.cosem.specs.Requests.{readAction, readService, requested}
 use Rattle.acse.specs.declared.Aarq.{Aarq as ReadAarq}
@@ -41,14 +41,14 @@ use Rattle.envelope.specs.declared.Shape.{Shape}
 use Rattle.envelope.specs.declared.Shape.the-variants.{Misshapen, Shaped}
 use Rattle.envelope.specs.Opening.{shapeOf, Opened, fails as stays, opens, opened}
 use Rattle.protocol.specs.declared.Secrets.{Secrets}
-use Rattle.protocol.specs.Clients.{ciphering, peer, counters, agreedIn, selectiveIn, lentKeys, dedicatedKeys, permitted, bitAgreed, isUnknown}
+use Rattle.protocol.specs.Clients.{ciphering, peer, counters, agreedIn, selectiveIn, blocksIn, lentKeys, dedicatedKeys, permitted, bitAgreed, isUnknown}
 use Rattle.protocol.specs.Decide.{heldByP5, isChallenge, provesItself, secretsOf}
 use Rattle.call_tests.specs.declared.LentTest.{LentTest}
 use Rattle.call_tests.specs.declared.LentTest.the-variants.{ReplyRoom, GukLength, AkLength, ChallengeLength}
 use Rattle.call_tests.specs.declared.LineTest.{LineTest}
 use Rattle.call_tests.specs.declared.LineTest.the-variants.{LinkUpWithInformation, P5HoldsV, LinkDownWhileDown, DataWhileDown, UnknownTag, TagNotPermitted, BitNotAgreed, AarqNotAccepted, EnvelopeShape, EnvelopeTag, CounterWindow, MalformedApdu, NotTheChallenge, WrongProof}
 use Rattle.call_tests.specs.declared.BodyTest.{BodyTest}
-use Rattle.call_tests.specs.declared.BodyTest.the-variants.{NameUnknown, ClassWrong, NotServed, ParameterShape, EntriesWrong, RangeWrong, AnswerTooLong}
+use Rattle.call_tests.specs.declared.BodyTest.the-variants.{NameUnknown, ClassWrong, NotServed, ParameterShape, EntriesWrong, RangeWrong, AnswerTooLong, TransferEnded, NoTransfer, BlockNumber}
 use Rattle.call_tests.specs.declared.CallTest.{CallTest}
 use Rattle.call_tests.specs.declared.Finding.{Finding}
 use Rattle.call_tests.specs.declared.Finding.the-variants.{Fails, Passes}
@@ -149,21 +149,31 @@ onInside l a c s t g = onEnvelope l a c t (λ d k tag. onOpened (opened k (ciphe
 
 -- A request, by itself or in an envelope.
 
-abbrev pub isMalformed : Reading → Bool
-isMalformed Malformed = true
-isMalformed (Asks q) = false
+-- it cannot be read; or it is a numbered request: "without the bit it stays malformed"
+abbrev pub isMalformed : (blocks : Bool) → Reading → Bool
+isMalformed blocks Malformed = true
+isMalformed blocks (Asks q) = false
+isMalformed blocks (GoesOn i n) = not blocks
 
 abbrev pub onAsks : Reading → (Asked → Bool) → Bool
 onAsks Malformed g = false
 onAsks (Asks q) g = g q
+onAsks (GoesOn i n) g = false
 
--- "a malformed APDU other than an AARQ"
+-- what is asked of the body: a request of the client, with what was agreed, or a numbered request
+abbrev pub onInquiry : Line → Client → List ℕ → Reading → (Inquiry → Bool) → Bool
+onInquiry l c s Malformed g = false
+onInquiry l c s (Asks q) g = g (ask (requested c (selectiveIn c l) (blocksIn c l) s q))
+onInquiry l c s (GoesOn i n) g = blocksIn c l && g (goOn i n)
+
+-- "a malformed APDU other than an AARQ"; an ACTION is no numbered request
 abbrev pub malformedIn : Line → Secrets → Client → List ℕ → Tag → Bool
 malformedIn l a c s Aarq = false
 malformedIn l a c s Rlrq = not (isRelease s)
-malformedIn l a c s (PlainRequest k) = isMalformed (readService k s)
-malformedIn l a c s GlobalAction = onInside l a c s GlobalAction (λ d counter text. isMalformed (readAction text))
-malformedIn l a c s (DedicatedRequest k) = onInside l a c s (DedicatedRequest k) (λ d counter text. isMalformed (readService k text))
+malformedIn l a c s (PlainRequest k) = isMalformed (blocksIn c l) (readService k s)
+malformedIn l a c s GlobalAction = onInside l a c s GlobalAction (λ d counter text. isMalformed false (readAction text))
+malformedIn l a c s (DedicatedRequest k) =
+    onInside l a c s (DedicatedRequest k) (λ d counter text. isMalformed (blocksIn c l) (readService k text))
 malformedIn l a c s Unknown = false
 
 -- an ACTION that answers the challenge, or should: CB, which is permitted while pending alone
@@ -176,13 +186,13 @@ onAnswer l a c s (DedicatedRequest k) g = false
 onAnswer l a c s Unknown g = false
 
 -- a request for the body
-abbrev pub onRequest : Line → Secrets → Client → List ℕ → Tag → (Request → Bool) → Bool
+abbrev pub onRequest : Line → Secrets → Client → List ℕ → Tag → (Inquiry → Bool) → Bool
 onRequest l a c s Aarq g = false
 onRequest l a c s Rlrq g = false
-onRequest l a c s (PlainRequest k) g = onAsks (readService k s) (λ q. g (requested c (selectiveIn c l) s q))
+onRequest l a c s (PlainRequest k) g = onInquiry l c s (readService k s) g
 onRequest l a c s GlobalAction g = false
 onRequest l a c s (DedicatedRequest k) g =
-    onInside l a c s (DedicatedRequest k) (λ d counter text. onAsks (readService k text) (λ q. g (requested c (selectiveIn c l) text q)))
+    onInside l a c s (DedicatedRequest k) (λ d counter text. onInquiry l c text (readService k text) g)
 onRequest l a c s Unknown g = false
 
 -- Links, associations, envelopes and their counters. The frame was read as x.
@@ -252,9 +262,14 @@ onSelector k (get attribute all) g = false
 onSelector k (get attribute (selected j v)) g = eqb j k && g v
 onSelector k (action method v) g = false
 
+-- attribute 2 of the profile, block transfer agreed: "a read too long for one frame gives its first block"
+abbrev pub inBlocks : Request → Object → ℕ → Bool
+inBlocks q o attribute = takesSelector (o .content) attribute && q .blocks
+
 -- "250 answer too long"
 abbrev pub tooLong : Request → Object → ℕ → Body → Picked → Bool
-tooLong q o attribute b (these rs) = not (leb (length (attributeData (o .content) (q .name) attribute rs b)) (dataRoom longestSent))
+tooLong q o attribute b (these rs) =
+    not (leb (length (attributeData (o .content) (q .name) attribute rs b)) (dataRoom longestSent)) && not (inBlocks q o attribute)
 tooLong q o attribute b (wrong c) = false
 
 abbrev pub answersTooLong : Request → Object → Body → Service → Bool
@@ -270,9 +285,47 @@ meaningFails q b w ParameterShape = onObject w (λ o. not (isShaped q o (q .serv
 meaningFails q b w EntriesWrong = onSelector entrySelector (q .service) (badEntries (length (b .store .rows)))
 meaningFails q b w RangeWrong = onSelector rangeSelector (q .service) badRange
 meaningFails q b w AnswerTooLong = onObject w (λ o. answersTooLong q o b (q .service))
+meaningFails q b w TransferEnded = false
+meaningFails q b w NoTransfer = false
+meaningFails q b w BlockNumber = false
 
 abbrev pub bodyFails : Request → Body → BodyTest → Bool
 bodyFails q b t = meaningFails q b (meaning (q .client) (q .name) (b .store .registers)) t
+
+-- A numbered request, by the number of the block received last and the transfer of the meter.
+
+abbrev pub isEnded : Transfer → Bool
+isEnded idle = false
+isEnded (running x k) = false
+isEnded ended = true
+
+abbrev pub isIdle : Transfer → Bool
+isIdle idle = true
+isIdle (running x k) = false
+isIdle ended = false
+
+-- the block that went out last
+abbrev pub onRunning : Transfer → (ℕ → Bool) → Bool
+onRunning idle g = false
+onRunning (running x k) g = g k
+onRunning ended g = false
+
+-- "in this order: ended meanwhile, code 15; else none running, code 16; wrong block number, code 19"
+abbrev pub numberFails : (number : ℕ) → Transfer → BodyTest → Bool
+numberFails n t NameUnknown = false
+numberFails n t ClassWrong = false
+numberFails n t NotServed = false
+numberFails n t ParameterShape = false
+numberFails n t EntriesWrong = false
+numberFails n t RangeWrong = false
+numberFails n t AnswerTooLong = false
+numberFails n t TransferEnded = isEnded t
+numberFails n t NoTransfer = isIdle t
+numberFails n t BlockNumber = onRunning t (λ k. not (eqb n k))
+
+abbrev pub inquiryFails : Inquiry → Body → BodyTest → Bool
+inquiryFails (ask q) b t = bodyFails q b t
+inquiryFails (goOn i n) b t = numberFails n (b .transfer) t
 
 -- A call.
 
@@ -283,7 +336,7 @@ callFails m a (OfState t) = not (passes t m)
 callFails m a (OfFrame t) = fails meterSide t (a .received)
 callFails m a (OfLine t) = lineFails (m .line) (secretsOf a) (a .received) (readFrame (a .received)) t
 callFails m a (OfBody t) =
-    onApdu (a .received) (readFrame (a .received)) (λ c s. onRequest (m .line) (secretsOf a) c s (tagIn s) (λ q. bodyFails q (m .body) t))
+    onApdu (a .received) (readFrame (a .received)) (λ c s. onRequest (m .line) (secretsOf a) c s (tagIn s) (λ q. inquiryFails q (m .body) t))
 
 -- The order: "frame calls test 1, 2, 3, then the frame".
 
@@ -309,7 +362,18 @@ lineTests =
     ∷ []
 
 abbrev pub bodyTests : List BodyTest
-bodyTests = NameUnknown ∷ ClassWrong ∷ NotServed ∷ ParameterShape ∷ EntriesWrong ∷ RangeWrong ∷ AnswerTooLong ∷ []
+bodyTests =
+    NameUnknown
+    ∷ ClassWrong
+    ∷ NotServed
+    ∷ ParameterShape
+    ∷ EntriesWrong
+    ∷ RangeWrong
+    ∷ AnswerTooLong
+    ∷ TransferEnded
+    ∷ NoTransfer
+    ∷ BlockNumber
+    ∷ []
 
 abbrev pub callTests : List CallTest
 callTests = map OfLent lentTests ++ (map OfState soundnessTests ++ (map OfFrame frameTests ++ (map OfLine lineTests ++ map OfBody bodyTests)))

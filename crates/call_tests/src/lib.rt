@@ -1,5 +1,5 @@
-// The tests of a frame call: every test of document 01 that a frame can fail, from the reply room to the length of an answer, by
-// its name. specs/ has what each looks at, their order and what is claimed of the first that fails; proofs/ has the proofs. There
+// The tests of a frame call: every test of documents 01 and 02 that a frame can fail, from the reply room to the number of a block,
+// by its name. specs/ has what each looks at, their order and what is claimed of the first that fails; proofs/ has the proofs. There
 // are no functions: the crate diagnosis has them.
 use hdlc::FrameTest;
 use model::SoundnessTest;
@@ -30,7 +30,7 @@ pub enum LineTest {
     WrongProof,
 }
 
-// A request for the body: refusal 13, in the order of its codes.
+// A request for the body: refusal 13, in the order of its codes; then a numbered request.
 pub enum BodyTest {
     NameUnknown,
     ClassWrong,
@@ -39,6 +39,9 @@ pub enum BodyTest {
     EntriesWrong,
     RangeWrong,
     AnswerTooLong,
+    TransferEnded,
+    NoTransfer,
+    BlockNumber,
 }
 
 // A test of a frame call.

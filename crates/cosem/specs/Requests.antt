@@ -1,5 +1,6 @@
 -- GET and ACTION requests, plain (document 01, "Objects and rows"; Get-Request-Normal and Action-Request-Normal of the Green
--- Book), and the model's request that each is. What it comes to is the model's. The places of the fields:
+-- Book), and the model's request that each is; and the numbered request for a block (document 02, Q-4; Get-Request-Next). What it
+-- comes to is the model's. The places of the fields:
 --
 --        0  tag and choice: C0 01 for GET, C3 01 for ACTION
 --        2  invoke byte
@@ -9,6 +10,10 @@
 --       12  00, where the request ends; or 01, and then
 --   GET 13  selector             ACTION 13  value, to the end
 --       14  value, to the end
+--
+--        0  C0 02, for the next block
+--        2  invoke byte
+--        3  the number of the block received last, four bytes, to the end
 use mathlib.Core.Bool.{Bool, false, cond}
 use mathlib.Core.List.{List, [], _∷_}
 use Prim.Native.Nat.{ℕ, _+_, _*_}
@@ -28,11 +33,14 @@ use Rattle.cosem.specs.declared.Wanted.{Wanted}
 use Rattle.cosem.specs.declared.Wanted.the-variants.{Read, ReadSelected, Invoke, InvokeWith}
 use Rattle.cosem.specs.declared.Asked.{Asked}
 use Rattle.cosem.specs.declared.Reading.{Reading}
-use Rattle.cosem.specs.declared.Reading.the-variants.{Asks, Malformed}
+use Rattle.cosem.specs.declared.Reading.the-variants.{Asks, GoesOn, Malformed}
 
 -- tag and choice
 abbrev pub getNormal : List ℕ
 getNormal = 0xC0 ∷ 0x01 ∷ []
+
+abbrev pub getNext : List ℕ
+getNext = 0xC0 ∷ 0x02 ∷ []
 
 abbrev pub actionNormal : List ℕ
 actionNormal = 0xC3 ∷ 0x01 ∷ []
@@ -75,6 +83,16 @@ getWith s Wrong = Malformed
 unfoldable pub readGet : List ℕ → Reading
 readGet s = getWith s (optionalPart getNormal s)
 
+-- a request for the next block: it ends with the number
+unfoldable pub readNext : List ℕ → Reading
+readNext s =
+    thenAt (expected s 0 getNext) Malformed (λ at.
+    thenField (numberAt 4 s 3) Malformed (λ number next. cond (eqb next (length s)) (GoesOn (byte s 2) number) Malformed))
+
+-- a request with the tag of GET, by its choice
+unfoldable pub readGets : List ℕ → Reading
+readGets s = cond (eqb (byte s 1) 0x02) (readNext s) (readGet s)
+
 -- an ACTION request, by its optional part
 abbrev pub actionWith : List ℕ → Part → Reading
 actionWith s Absent = asking s (Invoke (byte s 11))
@@ -86,7 +104,7 @@ readAction s = actionWith s (optionalPart actionNormal s)
 
 -- a request of this service. Nothing here is a SET: no client may send one
 abbrev pub readService : ServiceKind → List ℕ → Reading
-readService Get s = readGet s
+readService Get s = readGets s
 readService Set s = Malformed
 readService Action s = readAction s
 
@@ -99,13 +117,14 @@ serviceIn s (ReadSelected a selector at) = get a (selected selector (drop at s))
 serviceIn s (Invoke k) = action k absent
 serviceIn s (InvokeWith k at) = action k (present (drop at s))
 
--- the request that a client made with this APDU, selective access being agreed or not
-unfoldable pub requested : Client → (selective : Bool) → List ℕ → Asked → Request
-requested c selective s q =
+-- the request that a client made with this APDU, selective access and block transfer being agreed or not
+unfoldable pub requested : Client → (selective blocks : Bool) → List ℕ → Asked → Request
+requested c selective blocks s q =
     record {
       client = c;
       invoke = q .invoke;
       selective = selective;
+      blocks = blocks;
       class = q .class;
       name = nameIn s;
       service = serviceIn s (q .wanted);

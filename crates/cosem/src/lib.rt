@@ -1,5 +1,6 @@
-// Plain APDUs of the COSEM services: tags, GET and ACTION requests read, release, exceptions. Readers answer for every slice;
-// names and values stay in the APDU and are read at their places. specs/ says what each means; proofs/ has the laws for callers.
+// Plain APDUs of the COSEM services: tags, GET and ACTION requests and requests for a block read, release, exceptions. Readers
+// answer for every slice; names and values stay in the APDU and are read at their places. specs/ says what each means; proofs/ has
+// the laws for callers.
 mod request;
 mod shapes;
 mod tags;
@@ -8,6 +9,7 @@ use model::Clock;
 pub use request::name_in;
 pub use request::read_action;
 pub use request::read_get;
+pub use request::read_next;
 pub use request::read_service;
 pub use shapes::entries_at;
 pub use shapes::is_integer_at;
@@ -79,9 +81,10 @@ pub struct Asked {
     pub wanted: Wanted,
 }
 
-// A plain APDU that was read as a request.
+// A plain APDU that was read as a request, or as one for the next block of a long answer, after the block of this number.
 pub enum Reading {
     Asks(Asked),
+    GoesOn { invoke: u8, number: u32 },
     Malformed,
 }
 

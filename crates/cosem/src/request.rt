@@ -1,5 +1,5 @@
-// GET and ACTION requests: each reader says for every slice what it asks, or that it is malformed. Every selector and every
-// parameter is judged by the value reader of the crate axdr. specs/Requests has the places of the fields.
+// GET and ACTION requests, and those for a block: each reader says for every slice what it asks, or that it is malformed. Every
+// selector and every parameter is judged by the value reader of the crate axdr. specs/Requests has the places of the fields.
 use crate::Asked;
 use crate::Part;
 use crate::Reading;
@@ -10,7 +10,7 @@ use wire::End;
 use wire::Field;
 ghost use mathlib.Core.Path.{_≡_};
 ghost use Prim.Native.Nat.{_<_};
-ghost use Rattle.cosem.specs.Requests.{asking, askingWith, byte, lastValue, nameIn, optionalPart, readAction, readGet, readService};
+ghost use Rattle.cosem.specs.Requests.{asking, askingWith, byte, lastValue, nameIn, optionalPart, readAction, readGet, readGets, readNext, readService};
 
 // A GET request.
 pub fn read_get(apdu: &[u8]) -> Reading
@@ -36,6 +36,37 @@ pub fn read_get(apdu: &[u8]) -> Reading
     }
 }
 
+// A request for the next block.
+pub fn read_next(apdu: &[u8]) -> Reading
+    ensures { λ r. ⌜ r ≡ readNext (now (apdu .entry)) ⌝ }
+{
+    let End::At(_) = wire::expect_at(apdu, 0, b"\xC0\x02") else {
+        return Reading::Malformed;
+    };
+    let Field::Found {
+        value: number,
+        next,
+    } = wire::u32_at(apdu, 3)
+    else {
+        return Reading::Malformed;
+    };
+    if next != apdu.len() {
+        return Reading::Malformed;
+    }
+    let invoke = byte_of(apdu, 2);
+    Reading::GoesOn { invoke, number }
+}
+
+// A request with the tag of GET, by its choice.
+fn read_gets(apdu: &[u8]) -> Reading
+    ensures { λ r. ⌜ r ≡ readGets (now (apdu .entry)) ⌝ }
+{
+    if byte_of(apdu, 1) == 0x02 {
+        return read_next(apdu);
+    }
+    read_get(apdu)
+}
+
 // An ACTION request.
 pub fn read_action(apdu: &[u8]) -> Reading
     ensures { λ r. ⌜ r ≡ readAction (now (apdu .entry)) ⌝ }
@@ -54,7 +85,7 @@ pub fn read_service(kind: ServiceKind, apdu: &[u8]) -> Reading
     ensures { λ r. ⌜ r ≡ readService kind (now (apdu .entry)) ⌝ }
 {
     match kind {
-        ServiceKind::Get => read_get(apdu),
+        ServiceKind::Get => read_gets(apdu),
         ServiceKind::Set => Reading::Malformed,
         ServiceKind::Action => read_action(apdu),
     }

@@ -15,13 +15,12 @@ use Rattle.model.specs.Calls.{Lent}
 use Rattle.hdlc.specs.Reading.{readFrame}
 use Rattle.protocol.specs.Decide.{secretsOf}
 use Rattle.call_tests.specs.declared.LentTest.the-variants.{ReplyRoom, GukLength, AkLength, ChallengeLength}
-use Rattle.call_tests.specs.declared.CallTest.{CallTest}
 use Rattle.call_tests.specs.declared.CallTest.the-variants.{Lent as OfLent, Sound as OfState}
 use Rattle.call_tests.specs.declared.Finding.{Finding}
 use Rattle.call_tests.specs.declared.Finding.the-variants.{Fails, Passes}
 use Rattle.call_tests.specs.Tests.{callFails, firstFailing, found}
 use Rattle.call_tests.specs.Claims.{WellLent}
-use Rattle.call_tests.specs.Road.{heardFinds, orElse, lentFinds, stateFinds, bodyStateFinds, lineStateFinds, roadFinds}
+use Rattle.call_tests.specs.Road.{heardFinds, orElse, lentFinds, stateFinds, bodyStateFinds, lineStateFinds, transferFinds, roadFinds}
 use Rattle.call_tests.proofs.Road.{found-road, state-road}
 use Rattle.diagnosis.specs.Promise.{isFailing}
 
@@ -37,11 +36,22 @@ first-passes Passes y e = refl
 module _ (m : Model) (a : Lent) where
   -- The state.
 
-  pub body-fails : {x : Finding} {t : CallTest} → x ≡ bodyStateFinds (m .body) → x ≡ Fails t → x ≡ stateFinds m a
-  body-fails {x} e q = sym (state-road m a ∙ ap (λ y. orElse y (lineStateFinds (m .line))) (sym e) ∙ first-fails x _ (ap isFailing q))
+  -- what the body's tests leave: the line's, then the transfer's
+  abbrev beside : Finding
+  beside = orElse (lineStateFinds (m .line)) (transferFinds (m .line) (m .body))
 
-  pub body-passes : {x y : Finding} → x ≡ bodyStateFinds (m .body) → x ≡ Passes → y ≡ lineStateFinds (m .line) → y ≡ stateFinds m a
-  body-passes {x} e q f = f ∙ sym (state-road m a ∙ ap (λ y. orElse y (lineStateFinds (m .line))) (sym e) ∙ first-passes x _ (ap isFailing q))
+  pub body-fails : {x : Finding} → x ≡ bodyStateFinds (m .body) → isFailing x ≡ true → x ≡ stateFinds m a
+  body-fails {x} e q = sym (state-road m a ∙ ap (λ y. orElse y beside) (sym e) ∙ first-fails x _ q)
+
+  module _ {x : Finding} (e : x ≡ bodyStateFinds (m .body)) (q : isFailing x ≡ false) where
+    past-body : stateFinds m a ≡ beside
+    past-body = state-road m a ∙ ap (λ y. orElse y beside) (sym e) ∙ first-passes x _ q
+
+    pub line-fails : {y : Finding} → y ≡ lineStateFinds (m .line) → isFailing y ≡ true → y ≡ stateFinds m a
+    line-fails {y} f r = sym (past-body ∙ ap (λ z. orElse z (transferFinds (m .line) (m .body))) (sym f) ∙ first-fails y _ r)
+
+    pub transfer-left : {y z : Finding} → y ≡ lineStateFinds (m .line) → isFailing y ≡ false → z ≡ transferFinds (m .line) (m .body) → z ≡ stateFinds m a
+    transfer-left {y} {z} f r g = g ∙ sym (past-body ∙ ap (λ z. orElse z (transferFinds (m .line) (m .body))) (sym f) ∙ first-passes y _ r)
 
   -- a state that passes its stretch is sound
   every-passes : (k : ℕ) (ts : List SoundnessTest) → isFailing (firstFailing (callFails m a) (map OfState ts)) ≡ false → every (λ i t. passes t m) k ts ≡ true

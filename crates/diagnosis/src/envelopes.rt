@@ -116,6 +116,10 @@ fn find_in_answer(
     let reading = cosem::read_action(text);
     match reading {
         Reading::Asks(request) => judge(line, client, keys, counter, text, request),
+        Reading::GoesOn {
+            invoke: _,
+            number: _,
+        } => of_line(LineTest::MalformedApdu),
         Reading::Malformed => of_line(LineTest::MalformedApdu),
     }
 }

@@ -1,6 +1,6 @@
-// Why a frame call is refused: the first test of document 01 that it fails, for every meter, frame and length lent. It goes the road
-// of the frame call with the same readers, and makes no reply. It works with the keys, for their holder: what it tells stands
-// outside demand 3, and it is no part of the static library. The crate call_tests has the tests.
+// Why a frame call is refused: the first test of documents 01 and 02 that it fails, for every meter, frame and length lent. It
+// goes the road of the frame call with the same readers, and makes no reply. It works with the keys, for their holder: what it
+// tells stands outside demand 3, and it is no part of the static library. The crate call_tests has the tests.
 mod apdus;
 mod envelopes;
 mod requests;

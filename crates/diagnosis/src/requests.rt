@@ -1,4 +1,4 @@
-// Requests for the body: what they come to, by its result code.
+// Requests for the body: what they come to, by its result code; and numbered requests, by the transfer.
 use crate::told::of_body;
 use crate::told::of_line;
 use body::BodyState;
@@ -15,34 +15,49 @@ use objects::Argument;
 use objects::Found;
 use objects::Query;
 use objects::Selector;
+use picks::Progress;
+use picks::Transfer;
+use results::Invoked;
 use results::Outcome;
 ghost use mathlib.Core.Path.{_≡_};
 ghost use mathlib.Core.Bool.{true};
 ghost use mathlib.Core.List.{List};
 ghost use Prim.Native.Nat.{ℕ};
 ghost use Rattle.model.specs.declared.Name.{Name as ModelName};
-ghost use Rattle.model.specs.State.{Body};
+ghost use Rattle.model.specs.State.{Body, Transfer as ModelTransfer};
 ghost use Rattle.model.specs.Soundness.{sound};
 ghost use Rattle.model.specs.Objects.{action, get};
-ghost use Rattle.cosem.specs.Requests.{readService, requested};
+ghost use Rattle.cosem.specs.Requests.{readService, requested, serviceIn};
 ghost use Rattle.line.specs.View.{lineOf};
 ghost use Rattle.body.specs.View.{bodyOf, bodySound};
 ghost use Rattle.meter.specs.View.{view};
 ghost use Rattle.objects.specs.Meanings.{foundAs, requestAs};
 ghost use Rattle.objects.specs.Picks.{parameterIn, selectionIn};
-ghost use Rattle.results.specs.Results.{outcomeAs};
-ghost use Rattle.call_tests.specs.Road.{askedFinds, bodyFinds, codeTest, resultFinds, selectorWrong, serviceFinds};
+ghost use Rattle.picks.specs.Transfers.{transferOf};
+ghost use Rattle.results.specs.Results.{invokedAs, outcomeAs};
+ghost use Rattle.call_tests.specs.declared.BodyTest.the-variants.{EntriesWrong};
+ghost use Rattle.call_tests.specs.Road.{askedFinds, bodyFinds, codeTest, numberFinds, resultFinds, selectorWrong, serviceFinds};
 
 // An APDU or an opened text that is to be a request of this kind.
 pub fn ask(meter: Meter, client: Client, kind: ServiceKind, apdu: &[u8]) -> Finding
     requires { ⌜ sound (view meter) ≡ true ⌝ }
     ensures { λ r. ⌜ r ≡ askedFinds (lineOf (meter .line)) (bodyOf (meter .body)) client (now (apdu .entry)) (readService kind (now (apdu .entry))) ⌝ }
 {
+    let line = meter.line;
+    let body = meter.body;
     let reading = cosem::read_service(kind, apdu);
     match reading {
         Reading::Asks(request) => {
-            let selective = association::is_selective(meter.line, client);
-            find_in_request(meter.body, client, selective, apdu, request)
+            let selective = association::is_selective(line, client);
+            let blocks = association::takes_blocks(line, client);
+            find_in_request(body, client, selective, blocks, apdu, request)
+        }
+        Reading::GoesOn { invoke: _, number } => {
+            if !association::takes_blocks(line, client) {
+                return of_line(LineTest::MalformedApdu);
+            }
+            let transfer = body.transfer;
+            find_in_number(transfer, number)
         }
         Reading::Malformed => of_line(LineTest::MalformedApdu),
     }
@@ -53,23 +68,39 @@ fn find_in_request(
     body: BodyState,
     client: Client,
     selective: bool,
+    blocks: bool,
     apdu: &[u8],
     asked: Asked,
 ) -> Finding
     requires { ⌜ bodySound (bodyOf body) ≡ true ⌝ }
-    ensures { λ r. ⌜ r ≡ bodyFinds (bodyOf body) (requested client selective (now (apdu .entry)) asked) ⌝ }
+    ensures { λ r. ⌜ r ≡ bodyFinds (bodyOf body) (requested client selective blocks (now (apdu .entry)) asked) ⌝ }
 {
     let name = cosem::name_in(apdu);
     let query = Query {
         client,
         invoke: asked.invoke,
         selective,
+        blocks,
         class: asked.class,
         name,
     };
     let registers = body.registers;
     let found = objects::find(client, name, registers);
     let wanted = asked.wanted;
+    find_in_wanted(body, found, query, wanted, apdu)
+}
+
+// What it asks of what was found.
+fn find_in_wanted(
+    body: BodyState,
+    found: Found,
+    query: Query,
+    wanted: Wanted,
+    apdu: &[u8],
+) -> Finding
+    requires { ⌜ bodySound (bodyOf body) ≡ true ⌝ }
+    ensures { λ r. ⌜ r ≡ serviceFinds (requestAs query (serviceIn (now (apdu .entry)) wanted)) (bodyOf body) (foundAs (query .name) found) (serviceIn (now (apdu .entry)) wanted) ⌝ }
+{
     match wanted {
         Wanted::Read { attribute } => {
             find_in_get(body, found, query, attribute, Selector::All, apdu)
@@ -121,16 +152,27 @@ fn find_in_action(
 ) -> Finding
     ensures { λ r. ⌜ ((b : Body) → r ≡ serviceFinds (requestAs query (action method (parameterIn (now (apdu .entry)) argument))) b (foundAs (query .name) found) (action method (parameterIn (now (apdu .entry)) argument))) ⌝ }
 {
-    let outcome = results::invoke_method(found, query, method, argument, apdu);
-    find_in_outcome(outcome, BodyTest::EntriesWrong)
+    let invoked = results::invoke_method(found, query, method, argument, apdu);
+    find_in_invoked(invoked)
 }
 
-// Granted, or denied by a code. Code 13 is that of this test.
+// Done, or denied by a code.
+fn find_in_invoked(invoked: Invoked) -> Finding
+    ensures { λ r. ⌜ r ≡ resultFinds EntriesWrong (invokedAs invoked) ⌝ }
+{
+    match invoked {
+        Invoked::Done => Finding::Passes,
+        Invoked::Denied(code) => of_body(code_test(BodyTest::EntriesWrong, code)),
+    }
+}
+
+// Granted, whole or in blocks, or denied by a code. Code 13 is that of this test.
 fn find_in_outcome(outcome: Outcome, thirteen: BodyTest) -> Finding
-    ensures { λ r. ⌜ ((n : ModelName) (b : Body) → r ≡ resultFinds thirteen (outcomeAs n b outcome)) ⌝ }
+    ensures { λ r. ⌜ ((x : ModelTransfer) (n : ModelName) (b : Body) → r ≡ resultFinds thirteen (outcomeAs x n b outcome)) ⌝ }
 {
     match outcome {
         Outcome::Granted(_) => Finding::Passes,
+        Outcome::Begun { which: _ } => Finding::Passes,
         Outcome::Denied(code) => of_body(code_test(thirteen, code)),
     }
 }
@@ -161,5 +203,22 @@ fn selector_wrong(selector: Selector) -> BodyTest
             }
             BodyTest::EntriesWrong
         }
+    }
+}
+
+// A request for the next block after that of this number.
+fn find_in_number(transfer: Transfer, number: u32) -> Finding
+    ensures { λ r. ⌜ r ≡ numberFinds number (transferOf transfer) ⌝ }
+{
+    let progress = transfer.progress;
+    match progress {
+        Progress::Idle => of_body(BodyTest::NoTransfer),
+        Progress::Running => {
+            if number != transfer.block {
+                return of_body(BodyTest::BlockNumber);
+            }
+            Finding::Passes
+        }
+        Progress::Ended => of_body(BodyTest::TransferEnded),
     }
 }

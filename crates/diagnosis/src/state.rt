@@ -1,4 +1,5 @@
 // What is lent, and whether the state is sound: the tests before a frame is looked at.
+use crate::fails;
 use crate::told::of_lent;
 use crate::told::of_state;
 use body::BodyState;
@@ -8,6 +9,7 @@ use line::LineState;
 use meter::Meter;
 use model::SoundnessTest;
 ghost use mathlib.Core.Path.{_≡_};
+ghost use mathlib.Core.Bool.{false};
 ghost use mathlib.Core.List.{List};
 ghost use Prim.Native.Nat.{ℕ};
 ghost use Rattle.model.specs.State.{Model};
@@ -15,8 +17,9 @@ ghost use Rattle.model.specs.Calls.{Lent};
 ghost use Rattle.line.specs.View.{lineOf};
 ghost use Rattle.body.specs.View.{bodyOf};
 ghost use Rattle.meter.specs.View.{view};
-ghost use Rattle.call_tests.specs.Road.{bodyStateFinds, lentFinds, lineStateFinds, rowsFinds, stateFinds};
+ghost use Rattle.call_tests.specs.Road.{bodyStateFinds, lentFinds, lineStateFinds, rowsFinds, stateFinds, transferFinds};
 ghost use Rattle.p2.specs.Promise.{lent};
+ghost use Rattle.diagnosis.specs.Promise.{isFailing};
 
 // The reply room that a call asks for.
 const REPLY_ROOM: usize = 779;
@@ -40,16 +43,21 @@ pub fn find_lent(room: usize, guk: &[u8], ak: &[u8], challenge: &[u8]) -> Findin
     Finding::Passes
 }
 
-// The state: its body, then its line.
+// The state: its body, then its line, then the transfer beside both.
 pub fn find_unsound(meter: Meter) -> Finding
     ensures { λ r. ⌜ ((a : Lent) → r ≡ stateFinds (view meter) a) ⌝ }
 {
     let body = meter.body;
-    let finding = find_in_body(body);
-    match finding {
-        Finding::Fails(_) => finding,
-        Finding::Passes => find_in_line(meter.line),
+    let of_body = find_in_body(body);
+    if fails(of_body) {
+        return of_body;
     }
+    let line = meter.line;
+    let of_line = find_in_line(line);
+    if fails(of_line) {
+        return of_line;
+    }
+    find_in_transfer(line, body)
 }
 
 fn find_in_body(body: BodyState) -> Finding
@@ -103,6 +111,23 @@ fn find_in_line(line: LineState) -> Finding
     }
     if !line::services_offered(line) {
         return of_state(SoundnessTest::AgreedServices);
+    }
+    Finding::Passes
+}
+
+// The transfer, of a body that passes its own tests.
+fn find_in_transfer(line: LineState, body: BodyState) -> Finding
+    requires { ⌜ isFailing (bodyStateFinds (bodyOf body)) ≡ false ⌝ }
+    ensures { λ r. ⌜ r ≡ transferFinds (lineOf line) (bodyOf body) ⌝ }
+{
+    let transfer = body.transfer;
+    if !meter::is_allowed(line, transfer) {
+        return of_state(SoundnessTest::TransferPossible);
+    }
+    let rows = body.rows;
+    let columns = body.columns;
+    if !picks::goes_on(rows, columns.count, transfer) {
+        return of_state(SoundnessTest::TransferPossible);
     }
     Finding::Passes
 }

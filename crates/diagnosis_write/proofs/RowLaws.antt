@@ -13,7 +13,7 @@ use Rattle.diagnosis_write.specs.Lengths.{longestName}
 use Rattle.diagnosis_write.specs.Rows.{rows, rowFrom, word, IsRow}
 use Rattle.diagnosis_write.proofs.WordLaws.{word-short}
 
-pub row-there : (k : ℕ) (x : Finding) → IsRow k x → k < 54
+pub row-there : (k : ℕ) (x : Finding) → IsRow k x → k < 58
 row-there k x h = omega (arith, simp (length-take, length-drop) at (ap length h))
 
 -- a row's letters
@@ -41,6 +41,6 @@ same-row (y ∷ r) t e (suc k) x h =
     rw n (ap (λ (s : List ℕ). word (take 26 s)) (sym (drop-drop (k * 26) 26 t)) ∙ same-row r (drop 26 t) f k x h)
 
 -- what was written of a table whose words are the names, by one computed comparison
-pub row-written : {l m : List ℕ} {a b : ℕ} (t : List ℕ) (k : ℕ) (x : Finding) → words 54 t ≡ named rows → IsRow k x → Wrote l a m b (word (rowFrom (k * 26) t)) → Wrote l a m b (letters (nameFound x)) × (b ≤ a + longestName)
+pub row-written : {l m : List ℕ} {a b : ℕ} (t : List ℕ) (k : ℕ) (x : Finding) → words 58 t ≡ named rows → IsRow k x → Wrote l a m b (word (rowFrom (k * 26) t)) → Wrote l a m b (letters (nameFound x)) × (b ≤ a + longestName)
 row-written t k x e h w =
     (rw (same-row rows t e k x h) at w, omega (arith, w .next, word-short (rowFrom (k * 26) t), length-take longestName (drop (k * 26) t)))

@@ -12,7 +12,7 @@ ghost use Rattle.call_tests.specs.declared.Finding.the-variants.{Fails};
 ghost use Rattle.diagnosis_write.specs.Rows.{IsRow};
 
 // Rows of 26 letters: none's, then those of the tests in their order.
-pub const NAMES: [u8; 1404] = *b"\
+pub const NAMES: [u8; 1508] = *b"\
     none                      \
     reply-room                \
     GUK-length                \
@@ -28,6 +28,7 @@ pub const NAMES: [u8; 1404] = *b"\
     association-kind          \
     association-without-link  \
     agreed-services           \
+    transfer                  \
     short-frame               \
     flag-missing              \
     frame-type                \
@@ -67,6 +68,9 @@ pub const NAMES: [u8; 1404] = *b"\
     entries-wrong             \
     range-wrong               \
     answer-too-long           \
+    transfer-ended            \
+    no-transfer               \
+    block-number              \
 ";
 
 // The row of what was found of a call.
@@ -119,6 +123,7 @@ fn state_row(test: SoundnessTest) -> usize
         SoundnessTest::AssociationKind => 12,
         SoundnessTest::AssociationOnLink => 13,
         SoundnessTest::AgreedServices => 14,
+        SoundnessTest::TransferPossible => 15,
     }
 }
 
@@ -127,24 +132,24 @@ fn frame_row(test: FrameTest) -> usize
     ensures { λ r. ⌜ IsRow r (Fails (OfFrame test)) ⌝ }
 {
     match test {
-        FrameTest::ShortFrame => 15,
-        FrameTest::FlagMissing => 16,
-        FrameTest::FrameType => 17,
-        FrameTest::LengthMismatch => 18,
-        FrameTest::LengthEightOrNine => 19,
-        FrameTest::WrongFcs => 20,
-        FrameTest::WrongHcs => 21,
-        FrameTest::EvenAddress => 22,
-        FrameTest::FrmrReceived => 23,
-        FrameTest::OverLength => 24,
-        FrameTest::SegmentBit => 25,
-        FrameTest::PfClear => 26,
-        FrameTest::WrongDestination => 27,
-        FrameTest::WrongSource => 28,
-        FrameTest::UnknownControl => 29,
-        FrameTest::LinkDownWithInformation => 30,
-        FrameTest::ShortInformation => 31,
-        FrameTest::WrongLlc => 32,
+        FrameTest::ShortFrame => 16,
+        FrameTest::FlagMissing => 17,
+        FrameTest::FrameType => 18,
+        FrameTest::LengthMismatch => 19,
+        FrameTest::LengthEightOrNine => 20,
+        FrameTest::WrongFcs => 21,
+        FrameTest::WrongHcs => 22,
+        FrameTest::EvenAddress => 23,
+        FrameTest::FrmrReceived => 24,
+        FrameTest::OverLength => 25,
+        FrameTest::SegmentBit => 26,
+        FrameTest::PfClear => 27,
+        FrameTest::WrongDestination => 28,
+        FrameTest::WrongSource => 29,
+        FrameTest::UnknownControl => 30,
+        FrameTest::LinkDownWithInformation => 31,
+        FrameTest::ShortInformation => 32,
+        FrameTest::WrongLlc => 33,
     }
 }
 
@@ -153,20 +158,20 @@ fn line_row(test: LineTest) -> usize
     ensures { λ r. ⌜ IsRow r (Fails (OfLine test)) ⌝ }
 {
     match test {
-        LineTest::LinkUpWithInformation => 33,
-        LineTest::P5HoldsV => 34,
-        LineTest::LinkDownWhileDown => 35,
-        LineTest::DataWhileDown => 36,
-        LineTest::UnknownTag => 37,
-        LineTest::TagNotPermitted => 38,
-        LineTest::BitNotAgreed => 39,
-        LineTest::AarqNotAccepted => 40,
-        LineTest::EnvelopeShape => 41,
-        LineTest::EnvelopeTag => 42,
-        LineTest::CounterWindow => 43,
-        LineTest::MalformedApdu => 44,
-        LineTest::NotTheChallenge => 45,
-        LineTest::WrongProof => 46,
+        LineTest::LinkUpWithInformation => 34,
+        LineTest::P5HoldsV => 35,
+        LineTest::LinkDownWhileDown => 36,
+        LineTest::DataWhileDown => 37,
+        LineTest::UnknownTag => 38,
+        LineTest::TagNotPermitted => 39,
+        LineTest::BitNotAgreed => 40,
+        LineTest::AarqNotAccepted => 41,
+        LineTest::EnvelopeShape => 42,
+        LineTest::EnvelopeTag => 43,
+        LineTest::CounterWindow => 44,
+        LineTest::MalformedApdu => 45,
+        LineTest::NotTheChallenge => 46,
+        LineTest::WrongProof => 47,
     }
 }
 
@@ -175,12 +180,15 @@ fn body_row(test: BodyTest) -> usize
     ensures { λ r. ⌜ IsRow r (Fails (OfBody test)) ⌝ }
 {
     match test {
-        BodyTest::NameUnknown => 47,
-        BodyTest::ClassWrong => 48,
-        BodyTest::NotServed => 49,
-        BodyTest::ParameterShape => 50,
-        BodyTest::EntriesWrong => 51,
-        BodyTest::RangeWrong => 52,
-        BodyTest::AnswerTooLong => 53,
+        BodyTest::NameUnknown => 48,
+        BodyTest::ClassWrong => 49,
+        BodyTest::NotServed => 50,
+        BodyTest::ParameterShape => 51,
+        BodyTest::EntriesWrong => 52,
+        BodyTest::RangeWrong => 53,
+        BodyTest::AnswerTooLong => 54,
+        BodyTest::TransferEnded => 55,
+        BodyTest::NoTransfer => 56,
+        BodyTest::BlockNumber => 57,
     }
 }

@@ -12,7 +12,7 @@ ghost use Rattle.model.specs.State.{none};
 ghost use Rattle.model.specs.declared.Client.the-variants.{Ciphering};
 ghost use Rattle.line.specs.View.{lineOf};
 ghost use Rattle.protocol.specs.Clients.{associates};
-ghost use Rattle.protocol.specs.Rulings.{nothing, outsideWindow, says};
+ghost use Rattle.protocol.specs.Rulings.{nothing, outsideWindow, refusedMalformed, says};
 ghost use Rattle.protocol.specs.Decide.{accepted};
 ghost use Rattle.replies.specs.Room.{HasRoom};
 ghost use Rattle.ending.specs.Inner.{Excepts, meterWith, received, Tells, told};
@@ -53,6 +53,21 @@ pub fn except(line: LineState, head: Head, e: Exception, out: &mut [u8]) -> Told
         count,
         line,
     }
+}
+
+// An opened text that is malformed: the envelope's counter becomes the last accepted.
+pub fn misread(
+    line: LineState,
+    client: CipherClient,
+    head: Head,
+    counter: u32,
+    out: &mut [u8],
+) -> Told
+    requires { ⌜ HasRoom (now out) ⌝ }
+    ensures { λ r. ⌜ Tells (refusedMalformed head (accepted client counter (lineOf line))) line (now (out .entry)) (now (out .exit)) r ⌝ }
+{
+    let next = accept_counter(line, client, counter);
+    except(next, head, Exception::ServiceUnknown, out)
 }
 
 // What the line answered, with the meter: its body is as it was.

@@ -9,6 +9,7 @@ use ending::accept_counter;
 use ending::drop_association;
 use ending::except;
 use ending::kept;
+use ending::misread;
 use envelope::Admission;
 use envelope::LONGEST_APDU;
 use hdlc::Head;
@@ -83,10 +84,11 @@ fn answer_challenge(
     let reading = cosem::read_action(text);
     match reading {
         Reading::Asks(request) => judge(line, client, keys, head, counter, text, request, out),
-        Reading::Malformed => {
-            let next = accept_counter(line, client, counter);
-            except(next, head, Exception::ServiceUnknown, out)
-        }
+        Reading::GoesOn {
+            invoke: _,
+            number: _,
+        } => misread(line, client, head, counter, out),
+        Reading::Malformed => misread(line, client, head, counter, out),
     }
 }
 

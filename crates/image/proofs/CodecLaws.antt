@@ -16,7 +16,11 @@ use Rattle.wire.proofs.NumberLaws.{Bytes, length-high, high-number, high-bytes}
 use Rattle.wire.proofs.ReadingLaws.{fill-here, part-bytes}
 use Rattle.line.specs.declared.Phase.{Phase}
 use Rattle.line.specs.declared.Phase.the-variants.{Idle, Pending, Associated}
-use Rattle.image.specs.Codec.{Codec, block, byte, number, flag, flagByte, phase, phaseByte, phaseOf, _&_, fields, values, allTaken, Each, none, more, many, Got}
+use Rattle.picks.specs.declared.Progress.{Progress}
+use Rattle.picks.specs.declared.Progress.the-variants.{Idle as Resting, Running, Ended}
+use Rattle.picks.specs.declared.PickingKind.{PickingKind}
+use Rattle.picks.specs.declared.PickingKind.the-variants.{Whole, Dated, Numbered}
+use Rattle.image.specs.Codec.{Codec, block, byte, number, flag, flagByte, which, oneOf, phase, phaseByte, progress, progressByte, pickingKind, kindByte, _&_, fields, values, allTaken, Each, none, more, many, Got}
 
 pub record Lawful {A : Type 0} (c : Codec A) : Type 0 where
   pub sized : (x : A) → c .Holds x → length (c .bytes x) ≡ c .size
@@ -82,31 +86,53 @@ flag-lawful =
       again = λ s b h t. ap (λ (x : ℕ). x ∷ []) (flag-again (getD s 0 0) (ltb-true (getD s 0 0) 2 t)) ∙ first s h;
     }
 
-phase-back : (x : Phase) → phaseOf (phaseByte x) ≡ x
-phase-back Idle = refl
-phase-back Pending = refl
-phase-back Associated = refl
+-- One of three: its byte gives it back, and is one of the three.
+record Told {A : Type 0} (f : A → ℕ) (x y z : A) (a : A) : Type 0 where
+  back : which x y z (f a) ≡ a
+  passes : ltb (f a) 3 ≡ true
 
-phase-passes : (x : Phase) → ltb (phaseByte x) 3 ≡ true
-phase-passes Idle = refl
-phase-passes Pending = refl
-phase-passes Associated = refl
+module _ {A : Type 0} (f : A → ℕ) (x y z : A) where
+  which-byte : f x ≡ 0 → f y ≡ 1 → f z ≡ 2 → (b : ℕ) → b < 3 → f (which x y z b) ≡ b
+  which-byte p q r zero h = p
+  which-byte p q r (suc zero) h = q
+  which-byte p q r (suc (suc zero)) h = r
+  which-byte p q r (suc (suc (suc n))) h = absurd (omega arith)
 
-phase-again : (b : ℕ) → b < 3 → phaseByte (phaseOf b) ≡ b
-phase-again zero h = refl
-phase-again (suc zero) h = refl
-phase-again (suc (suc zero)) h = refl
-phase-again (suc (suc (suc n))) h = absurd (omega arith)
+  one-of-lawful : ((a : A) → Told f x y z a) → f x ≡ 0 → f y ≡ 1 → f z ≡ 2 → Lawful (oneOf f x y z)
+  one-of-lawful t p q r =
+      record {
+        sized = λ a h. refl;
+        back = λ a h rest. t a .back;
+        passes = λ a h rest. t a .passes;
+        again = λ s b h k. ap (λ (n : ℕ). n ∷ []) (which-byte p q r (getD s 0 0) (ltb-true (getD s 0 0) 3 k)) ∙ first s h;
+      }
+
+phase-told : (a : Phase) → Told phaseByte Idle Pending Associated a
+phase-told Idle = record { back = refl; passes = refl }
+phase-told Pending = record { back = refl; passes = refl }
+phase-told Associated = record { back = refl; passes = refl }
 
 pub phase-lawful : Lawful phase
 unfolding phase
-phase-lawful =
-    record {
-      sized = λ x h. refl;
-      back = λ x h rest. phase-back x;
-      passes = λ x h rest. phase-passes x;
-      again = λ s b h t. ap (λ (x : ℕ). x ∷ []) (phase-again (getD s 0 0) (ltb-true (getD s 0 0) 3 t)) ∙ first s h;
-    }
+phase-lawful = one-of-lawful phaseByte Idle Pending Associated phase-told refl refl refl
+
+progress-told : (a : Progress) → Told progressByte Resting Running Ended a
+progress-told Resting = record { back = refl; passes = refl }
+progress-told Running = record { back = refl; passes = refl }
+progress-told Ended = record { back = refl; passes = refl }
+
+pub progress-lawful : Lawful progress
+unfolding progress
+progress-lawful = one-of-lawful progressByte Resting Running Ended progress-told refl refl refl
+
+kind-told : (a : PickingKind) → Told kindByte Whole Dated Numbered a
+kind-told Whole = record { back = refl; passes = refl }
+kind-told Dated = record { back = refl; passes = refl }
+kind-told Numbered = record { back = refl; passes = refl }
+
+pub kind-lawful : Lawful pickingKind
+unfolding pickingKind
+kind-lawful = one-of-lawful kindByte Whole Dated Numbered kind-told refl refl refl
 
 -- the byte at a place
 pub at-front : (s : List ℕ) (at : ℕ) → getD (drop at s) 0 0 ≡ getD s at 0

@@ -10,13 +10,14 @@ use Rattle.model.specs.Names.{every}
 use Rattle.model.specs.declared.Name.{Name}
 use Rattle.model.specs.declared.Register.{Register}
 use Rattle.store.specs.declared.Row.{Row}
+use Rattle.picks.specs.declared.Transfer.{Transfer}
 use Rattle.line.specs.declared.Party.{Party}
 use Rattle.line.specs.declared.LineState.{LineState}
 use Rattle.body.specs.declared.BodyState.{BodyState}
 use Rattle.meter.specs.declared.Meter.{Meter}
-use Rattle.meter.specs.Unsound.{array, bytes, u32, usize, holdsRegister, holdsRow, holdsBody, holdsParty, holdsLine, holdable}
-use Rattle.image.specs.Codec.{Codec, fields, flag, phase, Each, none, more, many, number}
-use Rattle.image.specs.Layout.{partyPart, countersPart, cipherPartyPart, linePart, namePart, clockPart, registerPart, registersPart, columnsPart, rowPart, rowsPart, bodyPart, meterPart}
+use Rattle.meter.specs.Unsound.{array, bytes, u32, usize, holdsRegister, holdsRow, holdsTransfer, holdsBody, holdsParty, holdsLine, holdable}
+use Rattle.image.specs.Codec.{Codec, fields, flag, phase, progress, pickingKind, Each, none, more, many, number}
+use Rattle.image.specs.Layout.{partyPart, countersPart, cipherPartyPart, linePart, namePart, clockPart, registerPart, registersPart, columnsPart, rowPart, rowsPart, pickingPart, transferPart, bodyPart, meterPart}
 
 both : (a b : Bool) → (a && b) ≡ true → (a ≡ true) × (b ≡ true)
 both a b h = and-eq-true-iff a b .0 h
@@ -53,10 +54,24 @@ row-holds x h =
     let c = both (usize (x .count)) (array 16 u32 (x .cells)) (b .1) in
     (ltb-true (x .number) 0x10000 (a .0), (long 12 (x .clock .bytes) (b .0), (ltb-true (x .count) 0x10000000000000000 (c .0), items (number 4) 16 u32 (λ n. ltb-true n 0x100000000) (x .cells) (c .1))))
 
+transfer-holds : (x : Transfer) → holdsTransfer x ≡ true → transferPart .Holds x
+unfolding transferPart pickingPart clockPart progress pickingKind fields
+transfer-holds x h =
+    let y = x .picking in
+    let c = u32 (y .to) && u32 (x .block) in
+    let b = u32 (y .from) && c in
+    let a = bytes 12 (y .until .bytes) && b in
+    let p = both (bytes 12 (y .after .bytes)) a h in
+    let q = both (bytes 12 (y .until .bytes)) b (p .1) in
+    let r = both (u32 (y .from)) c (q .1) in
+    let s = both (u32 (y .to)) (u32 (x .block)) (r .1) in
+    (tt, ((tt, (long 12 (y .after .bytes) (p .0), (long 12 (y .until .bytes) (q .0), (ltb-true (y .from) 0x100000000 (r .0), ltb-true (y .to) 0x100000000 (s .0))))), ltb-true (x .block) 0x100000000 (s .1)))
+
 body-holds : (x : BodyState) → holdsBody x ≡ true → bodyPart .Holds x
 unfolding bodyPart clockPart registersPart columnsPart rowsPart fields
 body-holds x h =
-    let i = usize (x .rows .count) && array 15 holdsRow (x .rows .items) in
+    let j = array 15 holdsRow (x .rows .items) && holdsTransfer (x .transfer) in
+    let i = usize (x .rows .count) && j in
     let g = array 16 (λ n. bytes 6 (n .bytes)) (x .columns .items) && i in
     let f = usize (x .columns .count) && g in
     let e = array 16 holdsRegister (x .registers .items) && f in
@@ -72,8 +87,9 @@ body-holds x h =
     let u = both (array 16 holdsRegister (x .registers .items)) f (t .1) in
     let v = both (usize (x .columns .count)) g (u .1) in
     let w = both (array 16 (λ n. bytes 6 (n .bytes)) (x .columns .items)) i (v .1) in
-    let z = both (usize (x .rows .count)) (array 15 holdsRow (x .rows .items)) (w .1) in
-    (long 16 (x .device) (p .0), (long 12 (x .clock .bytes) (q .0), (ltb-true (x .period) 0x100000000 (r .0), (ltb-true (x .number) 0x10000 (s .0), ((ltb-true (x .registers .count) 0x10000000000000000 (t .0), items registerPart 16 holdsRegister register-holds (x .registers .items) (u .0)), ((ltb-true (x .columns .count) 0x10000000000000000 (v .0), items namePart 16 (λ n. bytes 6 (n .bytes)) name-holds (x .columns .items) (w .0)), (ltb-true (x .rows .count) 0x10000000000000000 (z .0), items rowPart 15 holdsRow row-holds (x .rows .items) (z .1))))))))
+    let y = both (usize (x .rows .count)) j (w .1) in
+    let z = both (array 15 holdsRow (x .rows .items)) (holdsTransfer (x .transfer)) (y .1) in
+    (long 16 (x .device) (p .0), (long 12 (x .clock .bytes) (q .0), (ltb-true (x .period) 0x100000000 (r .0), (ltb-true (x .number) 0x10000 (s .0), ((ltb-true (x .registers .count) 0x10000000000000000 (t .0), items registerPart 16 holdsRegister register-holds (x .registers .items) (u .0)), ((ltb-true (x .columns .count) 0x10000000000000000 (v .0), items namePart 16 (λ n. bytes 6 (n .bytes)) name-holds (x .columns .items) (w .0)), ((ltb-true (x .rows .count) 0x10000000000000000 (y .0), items rowPart 15 holdsRow row-holds (x .rows .items) (z .0)), transfer-holds (x .transfer) (z .1))))))))
 
 party-holds : (x : Party) → holdsParty x ≡ true → partyPart .Holds x
 unfolding partyPart flag phase fields

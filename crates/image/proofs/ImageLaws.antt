@@ -44,7 +44,7 @@ module _ (s : List ℕ) where
 pub read-by : (s : List ℕ) (t : Status) → statusOf s ≡ t → record { status = t; meter = meterBy t s } ≡ readImage s
 read-by s t e = ap (λ (u : Status). record { status = u; meter = meterBy u s }) (sym e)
 
-pub blank-is : blankMeter ≡ meterPart .value (replicate 1727 0)
+pub blank-is : blankMeter ≡ meterPart .value (replicate 1765 0)
 unfolding blankMeter
 blank-is = ap (λ (n : ℕ). meterPart .value (replicate n 0)) (sizes .meter-size)
 

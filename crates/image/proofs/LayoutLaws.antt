@@ -1,7 +1,7 @@
 -- Each part of the layout is lawful: a line for each struct, which follows its layout.
 use mathlib.Core.Path.{refl}
-use Rattle.image.specs.Layout.{partyPart, countersPart, cipherPartyPart, linePart, namePart, clockPart, registerPart, registersPart, columnsPart, rowPart, rowsPart, bodyPart, meterPart}
-use Rattle.image.proofs.CodecLaws.{Lawful, block-lawful, byte-lawful, number-lawful, flag-lawful, phase-lawful, both-lawful, fields-lawful, many-lawful}
+use Rattle.image.specs.Layout.{partyPart, countersPart, cipherPartyPart, linePart, namePart, clockPart, registerPart, registersPart, columnsPart, rowPart, rowsPart, pickingPart, transferPart, bodyPart, meterPart}
+use Rattle.image.proofs.CodecLaws.{Lawful, block-lawful, byte-lawful, number-lawful, flag-lawful, phase-lawful, progress-lawful, kind-lawful, both-lawful, fields-lawful, many-lawful}
 
 pub party-lawful : Lawful partyPart
 unfolding partyPart
@@ -47,9 +47,17 @@ pub rows-lawful : Lawful rowsPart
 unfolding rowsPart
 rows-lawful = fields-lawful _ _ (both-lawful (number-lawful 8) (many-lawful row-lawful 15)) (λ x. refl) (λ y. refl)
 
+pub picking-lawful : Lawful pickingPart
+unfolding pickingPart
+picking-lawful = fields-lawful _ _ (both-lawful kind-lawful (both-lawful clock-lawful (both-lawful clock-lawful (both-lawful (number-lawful 4) (number-lawful 4))))) (λ x. refl) (λ y. refl)
+
+pub transfer-lawful : Lawful transferPart
+unfolding transferPart
+transfer-lawful = fields-lawful _ _ (both-lawful progress-lawful (both-lawful picking-lawful (number-lawful 4))) (λ x. refl) (λ y. refl)
+
 pub body-lawful : Lawful bodyPart
 unfolding bodyPart
-body-lawful = fields-lawful _ _ (both-lawful (block-lawful 16) (both-lawful clock-lawful (both-lawful (number-lawful 4) (both-lawful (number-lawful 2) (both-lawful registers-lawful (both-lawful columns-lawful rows-lawful)))))) (λ x. refl) (λ y. refl)
+body-lawful = fields-lawful _ _ (both-lawful (block-lawful 16) (both-lawful clock-lawful (both-lawful (number-lawful 4) (both-lawful (number-lawful 2) (both-lawful registers-lawful (both-lawful columns-lawful (both-lawful rows-lawful transfer-lawful))))))) (λ x. refl) (λ y. refl)
 
 pub meter-lawful : Lawful meterPart
 unfolding meterPart

@@ -9,10 +9,11 @@ use lib.Seq.{drop-drop}
 use Rattle.model.specs.Names.{blankName, blankRegister}
 use Rattle.model.specs.declared.Register.{Register}
 use Rattle.store.specs.declared.Row.{Row}
-use Rattle.image.specs.Codec.{Codec, block, byte, fields, flag, number, phase, values, Got}
-use Rattle.image.specs.Layout.{partyPart, countersPart, cipherPartyPart, linePart, namePart, clockPart, registerPart, registersPart, columnsPart, rowPart, rowsPart, bodyPart, meterPart}
+use Rattle.picks.specs.declared.Transfer.{Transfer}
+use Rattle.image.specs.Codec.{Codec, block, byte, fields, flag, number, phase, progress, pickingKind, values, Got}
+use Rattle.image.specs.Layout.{partyPart, countersPart, cipherPartyPart, linePart, namePart, clockPart, registerPart, registersPart, columnsPart, rowPart, rowsPart, pickingPart, transferPart, bodyPart, meterPart}
 use Rattle.image.specs.Image.{meterOf}
-use Rattle.image.specs.Places.{LineAt, BodyAt, RegisterAt, RowAt, Places}
+use Rattle.image.specs.Places.{LineAt, BodyAt, RegisterAt, RowAt, TransferAt, Places}
 
 -- from place to place
 abbrev onward : List ℕ → List ℕ → List ℕ
@@ -30,6 +31,10 @@ far (m ∷ ms) n s = ap (onward ms) (drop-drop m n s) ∙ far ms (n + m) s
 -- a field whose part stands past some others
 past : {A : Type 0} (c : Codec A) (ms : List ℕ) (n : ℕ) (s : List ℕ) → Got c s (sum n ms) (c .value (onward ms (drop n s)))
 past c ms n s = record { is = ap (c .value) (far ms n s) }
+
+-- a field past some others of a part that stands at p
+within : {A : Type 0} (c : Codec A) (ms : List ℕ) (n p : ℕ) (s : List ℕ) → Got c s (p + sum n ms) (c .value (onward ms (drop n (drop p s))))
+within c ms n p s = record { is = ap (c .value) (far ms n (drop p s) ∙ drop-drop (sum n ms) p s) }
 
 -- element i of an array
 value-at : {A : Type 0} (c : Codec A) (n : ℕ) (s : List ℕ) (i : ℕ) (d : A) → i < n → getD (values c n s) i d ≡ c .value (drop (i * c .size) s)
@@ -86,6 +91,7 @@ body-places s =
       columns = λ i h. item namePart 16 (75 ∷ 16 ∷ 12 ∷ 4 ∷ 2 ∷ 216 ∷ 8 ∷ []) 1 s i blankName h;
       rowCount = past (number 8) (75 ∷ 16 ∷ 12 ∷ 4 ∷ 2 ∷ 216 ∷ 104 ∷ []) 1 s;
       rows = λ i d h. item rowPart 15 (75 ∷ 16 ∷ 12 ∷ 4 ∷ 2 ∷ 216 ∷ 104 ∷ 8 ∷ []) 1 s i d h;
+      transfer = past transferPart (75 ∷ 16 ∷ 12 ∷ 4 ∷ 2 ∷ 216 ∷ 104 ∷ 1298 ∷ []) 1 s;
     }
 
 register-places : (s : List ℕ) (p : ℕ) {x : Register} → Got registerPart s p x → RegisterAt s p x
@@ -94,10 +100,10 @@ register-places s p {x} g =
     subst⁻¹ (λ (y : Register). RegisterAt s p y) (g .is)
     (record {
       name = record { is = refl };
-      readable = record { is = ap (flag .value) (drop-drop 6 p s) };
-      scaler = record { is = ap (byte .value) (drop-drop 1 6 (drop p s) ∙ drop-drop 7 p s) };
-      unit = record { is = ap (byte .value) (ap (drop 1) (drop-drop 1 6 (drop p s)) ∙ drop-drop 1 7 (drop p s) ∙ drop-drop 8 p s) };
-      value = record { is = ap ((number 4) .value) (far (1 ∷ 1 ∷ 1 ∷ []) 6 (drop p s) ∙ drop-drop 9 p s) };
+      readable = within flag [] 6 p s;
+      scaler = within byte (1 ∷ []) 6 p s;
+      unit = within byte (1 ∷ 1 ∷ []) 6 p s;
+      value = within (number 4) (1 ∷ 1 ∷ 1 ∷ []) 6 p s;
     })
 
 row-places : (s : List ℕ) (p : ℕ) {x : Row} → Got rowPart s p x → RowAt s p x
@@ -106,8 +112,8 @@ row-places s p {x} g =
     subst⁻¹ (λ (y : Row). RowAt s p y) (g .is)
     (record {
       recordNumber = record { is = refl };
-      clock = record { is = ap ((block 12) .value) (drop-drop 2 p s) };
-      count = record { is = ap ((number 8) .value) (far (12 ∷ []) 2 (drop p s) ∙ drop-drop 14 p s) };
+      clock = within (block 12) [] 2 p s;
+      count = within (number 8) (12 ∷ []) 2 p s;
       cells = λ i h.
           record {
             is = value-at (number 4) 16 (onward (12 ∷ 8 ∷ []) (drop 2 (drop p s))) i 0 h
@@ -115,5 +121,19 @@ row-places s p {x} g =
           };
     })
 
+transfer-places : (s : List ℕ) (p : ℕ) {x : Transfer} → Got transferPart s p x → TransferAt s p x
+unfolding transferPart pickingPart clockPart progress pickingKind fields
+transfer-places s p {x} g =
+    subst⁻¹ (λ (y : Transfer). TransferAt s p y) (g .is)
+    (record {
+      state = record { is = refl };
+      kind = within pickingKind [] 1 p s;
+      after = within (block 12) (1 ∷ []) 1 p s;
+      until = within (block 12) (1 ∷ 12 ∷ []) 1 p s;
+      from = within (number 4) (1 ∷ 12 ∷ 12 ∷ []) 1 p s;
+      to = within (number 4) (1 ∷ 12 ∷ 12 ∷ 4 ∷ []) 1 p s;
+      last = within (number 4) (33 ∷ []) 1 p s;
+    })
+
 pub places : Places
-places = record { line = line-places; body = body-places; register = register-places; row = row-places }
+places = record { line = line-places; body = body-places; register = register-places; row = row-places; transfer = transfer-places }

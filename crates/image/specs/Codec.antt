@@ -10,6 +10,10 @@ use lib.ListN.{length, take, drop, getD}
 use Rattle.wire.specs.Numbers.{highFirst, numberHigh}
 use Rattle.line.specs.declared.Phase.{Phase}
 use Rattle.line.specs.declared.Phase.the-variants.{Idle, Pending, Associated}
+use Rattle.picks.specs.declared.Progress.{Progress}
+use Rattle.picks.specs.declared.Progress.the-variants.{Idle as Resting, Running, Ended}
+use Rattle.picks.specs.declared.PickingKind.{PickingKind}
+use Rattle.picks.specs.declared.PickingKind.the-variants.{Whole, Dated, Numbered}
 
 pub record Codec (A : Type 0) : Type 1 where
   -- how many bytes
@@ -73,24 +77,48 @@ flag =
       Holds = λ x. Unit {0};
     }
 
+-- whether a byte string begins with 0, 1 or 2
+abbrev pub belowThree : List ℕ → Bool
+belowThree s = ltb (getD s 0 0) 3
+
+-- which of three a byte is
+abbrev pub which : {A : Type 0} → (x y z : A) → ℕ → A
+which x y z b = cond (eqb b 0) x (cond (eqb b 1) y z)
+
+-- one of three, as 0, 1 or 2, and no other byte
+abbrev pub oneOf : {A : Type 0} → (A → ℕ) → (x y z : A) → Codec A
+oneOf f x y z =
+    record {
+      size = 1;
+      bytes = λ a. f a ∷ [];
+      value = λ s. which x y z (getD s 0 0);
+      taken = belowThree;
+      Holds = λ a. Unit {0};
+    }
+
 abbrev pub phaseByte : Phase → ℕ
 phaseByte Idle = 0
 phaseByte Pending = 1
 phaseByte Associated = 2
 
-abbrev pub phaseOf : ℕ → Phase
-phaseOf b = cond (eqb b 0) Idle (cond (eqb b 1) Pending Associated)
-
--- 0, 1 or 2, and no other byte
 unfoldable pub phase : Codec Phase
-phase =
-    record {
-      size = 1;
-      bytes = λ x. phaseByte x ∷ [];
-      value = λ s. phaseOf (getD s 0 0);
-      taken = λ s. ltb (getD s 0 0) 3;
-      Holds = λ x. Unit {0};
-    }
+phase = oneOf phaseByte Idle Pending Associated
+
+abbrev pub progressByte : Progress → ℕ
+progressByte Resting = 0
+progressByte Running = 1
+progressByte Ended = 2
+
+unfoldable pub progress : Codec Progress
+progress = oneOf progressByte Resting Running Ended
+
+abbrev pub kindByte : PickingKind → ℕ
+kindByte Whole = 0
+kindByte Dated = 1
+kindByte Numbered = 2
+
+unfoldable pub pickingKind : Codec PickingKind
+pickingKind = oneOf kindByte Whole Dated Numbered
 
 -- Parts together.
 

@@ -15,7 +15,7 @@ use Rattle.image.specs.Layout.{meterPart}
 
 -- the version byte of this layout
 abbrev pub version : ℕ
-version = 1
+version = 2
 
 unfoldable pub imageSize : ℕ
 imageSize = 1 + meterPart .size

@@ -9,12 +9,14 @@ use Rattle.store.specs.declared.Registers.{Registers}
 use Rattle.store.specs.declared.Columns.{Columns}
 use Rattle.store.specs.declared.Row.{Row}
 use Rattle.store.specs.declared.Rows.{Rows}
+use Rattle.picks.specs.declared.Picking.{Picking}
+use Rattle.picks.specs.declared.Transfer.{Transfer}
 use Rattle.line.specs.declared.Party.{Party}
 use Rattle.line.specs.declared.CipherParty.{CipherParty}
 use Rattle.line.specs.declared.LineState.{LineState}
 use Rattle.body.specs.declared.BodyState.{BodyState}
 use Rattle.meter.specs.declared.Meter.{Meter}
-use Rattle.image.specs.Codec.{Codec, block, byte, number, flag, phase, _&_, fields, many}
+use Rattle.image.specs.Codec.{Codec, block, byte, number, flag, phase, progress, pickingKind, _&_, fields, many}
 
 -- The line.
 
@@ -91,11 +93,25 @@ rowsPart =
     (λ (count, items). record { count = count; items = items })
     (number 8 & many 15 rowPart)
 
--- device, clock, period, number, registers, columns, rows
+-- kind, after, until, from, to
+unfoldable pub pickingPart : Codec Picking
+pickingPart =
+    fields (λ p. (p .kind, (p .after, (p .until, (p .from, p .to)))))
+    (λ (kind, (after, (until, (from, to)))). record { kind = kind; after = after; until = until; from = from; to = to })
+    (pickingKind & clockPart & clockPart & number 4 & number 4)
+
+-- progress, picking, block
+unfoldable pub transferPart : Codec Transfer
+transferPart =
+    fields (λ t. (t .progress, (t .picking, t .block)))
+    (λ (state, (picking, last)). record { progress = state; picking = picking; block = last })
+    (progress & pickingPart & number 4)
+
+-- device, clock, period, number, registers, columns, rows, transfer
 unfoldable pub bodyPart : Codec BodyState
 bodyPart =
-    fields (λ b. (b .device, (b .clock, (b .period, (b .number, (b .registers, (b .columns, b .rows)))))))
-    (λ (device, (clock, (period, (recordNumber, (registers, (columns, rows)))))).
+    fields (λ b. (b .device, (b .clock, (b .period, (b .number, (b .registers, (b .columns, (b .rows, b .transfer))))))))
+    (λ (device, (clock, (period, (recordNumber, (registers, (columns, (rows, transfer))))))).
     record {
       device = device;
       clock = clock;
@@ -104,8 +120,9 @@ bodyPart =
       registers = registers;
       columns = columns;
       rows = rows;
+      transfer = transfer;
     })
-    (block 16 & clockPart & number 4 & number 2 & registersPart & columnsPart & rowsPart)
+    (block 16 & clockPart & number 4 & number 2 & registersPart & columnsPart & rowsPart & transferPart)
 
 -- line, body
 unfoldable pub meterPart : Codec Meter

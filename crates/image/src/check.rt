@@ -1,4 +1,5 @@
-// Whether bytes are taken for a part: its flags are 0 or 1, and its phases at most 2. Any other byte is taken as it is.
+// Whether bytes are taken for a part: its flags are 0 or 1; its phases, progress and kind of a transfer are at most 2. Any
+// other byte is taken as it is.
 use crate::read::CIPHER_PARTY;
 use crate::read::LINE;
 use crate::read::NAME;
@@ -7,11 +8,13 @@ use crate::read::REGISTER;
 ghost use mathlib.Core.Path.{_≡_};
 ghost use Prim.Native.Nat.{_+_, _≤_};
 ghost use lib.ListN.{drop, length};
-ghost use Rattle.image.specs.Codec.{flag, many, phase};
-ghost use Rattle.image.specs.Layout.{bodyPart, linePart, meterPart, partyPart, registerPart};
+ghost use Rattle.image.specs.Codec.{belowThree, flag, many};
+ghost use Rattle.image.specs.Layout.{bodyPart, linePart, meterPart, partyPart, registerPart, transferPart};
 
-// How far into the body the first register stands.
+// How far into the body the first register stands, and the transfer.
 const FIRST_REGISTER: usize = 42;
+
+const TRANSFER: usize = 1652;
 
 pub fn meter_taken(s: &[u8], at: usize) -> bool
     requires { ⌜ at + meterPart .size ≤ length (now s) ⌝ }
@@ -46,14 +49,27 @@ fn party_taken(s: &[u8], at: usize) -> bool
     if !flag_taken(s, a) {
         return false;
     }
-    phase_taken(s, a + 1)
+    below_three(s, a + 1)
 }
 
 fn body_taken(s: &[u8], at: usize) -> bool
     requires { ⌜ at + bodyPart .size ≤ length (now s) ⌝ }
     ensures { λ r. ⌜ r ≡ bodyPart .taken (drop at (now (s .entry))) ⌝ }
 {
-    each_register_taken(s, at + FIRST_REGISTER, 16)
+    if !each_register_taken(s, at + FIRST_REGISTER, 16) {
+        return false;
+    }
+    transfer_taken(s, at + TRANSFER)
+}
+
+fn transfer_taken(s: &[u8], at: usize) -> bool
+    requires { ⌜ at + transferPart .size ≤ length (now s) ⌝ }
+    ensures { λ r. ⌜ r ≡ transferPart .taken (drop at (now (s .entry))) ⌝ }
+{
+    if !below_three(s, at) {
+        return false;
+    }
+    below_three(s, at + 1)
 }
 
 pub fn each_register_taken(s: &[u8], at: usize, count: usize) -> bool
@@ -79,9 +95,9 @@ fn flag_taken(s: &[u8], at: usize) -> bool
     s[at] < 2
 }
 
-fn phase_taken(s: &[u8], at: usize) -> bool
-    requires { ⌜ at + phase .size ≤ length (now s) ⌝ }
-    ensures { λ r. ⌜ r ≡ phase .taken (drop at (now (s .entry))) ⌝ }
+fn below_three(s: &[u8], at: usize) -> bool
+    requires { ⌜ at + 1 ≤ length (now s) ⌝ }
+    ensures { λ r. ⌜ r ≡ belowThree (drop at (now (s .entry))) ⌝ }
 {
     s[at] < 3
 }

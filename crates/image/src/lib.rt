@@ -17,9 +17,9 @@ ghost use mathlib.Core.Path.{_≡_};
 ghost use Rattle.image.specs.Image.{blankMeter, imageRefusal, meterIn, readImage, statusOf};
 
 // How many bytes an image has, and the first of them.
-pub const SIZE: usize = 1728;
+pub const SIZE: usize = 1766;
 
-pub const VERSION: u8 = 1;
+pub const VERSION: u8 = 2;
 
 // The numbers by which a call refuses bytes that are no whole image.
 pub const WRONG_LENGTH: u8 = 101;
@@ -34,7 +34,7 @@ pub enum Status {
     Whole,
     WrongLength,
     WrongVersion,
-    // a flag that is neither 0 nor 1, or a phase above 2
+    // a flag that is neither 0 nor 1; a phase, a transfer's progress or its kind above 2
     NoImage,
 }
 

@@ -9,6 +9,10 @@ use model::Clock;
 use model::Counters;
 use model::Name;
 use model::Register;
+use picks::Picking;
+use picks::PickingKind;
+use picks::Progress;
+use picks::Transfer;
 use store::Columns;
 use store::Registers;
 use store::Row;
@@ -16,9 +20,9 @@ use store::Rows;
 use wire::Field;
 ghost use Prim.Native.Nat.{_+_, _≤_};
 ghost use lib.ListN.{length};
-ghost use Rattle.image.specs.Codec.{byte, flag, Got, many, number, phase};
+ghost use Rattle.image.specs.Codec.{byte, flag, Got, many, number, phase, pickingKind, progress};
 ghost use Rattle.image.specs.Lists.{Firsts};
-ghost use Rattle.image.specs.Layout.{bodyPart, cipherPartyPart, clockPart, columnsPart, countersPart, linePart, meterPart, namePart, partyPart, registerPart, registersPart, rowPart, rowsPart};
+ghost use Rattle.image.specs.Layout.{bodyPart, cipherPartyPart, clockPart, columnsPart, countersPart, linePart, meterPart, namePart, partyPart, pickingPart, registerPart, registersPart, rowPart, rowsPart, transferPart};
 
 // How many bytes the parts take.
 pub const PARTY: usize = 13;
@@ -38,6 +42,10 @@ pub const REGISTERS: usize = 216;
 pub const COLUMNS: usize = 104;
 
 pub const ROW: usize = 86;
+
+pub const ROWS: usize = 1298;
+
+pub const PICKING: usize = 33;
 
 pub fn meter_at(s: &[u8], at: usize) -> Meter
     requires { ⌜ at + meterPart .size ≤ length (now s) ⌝ }
@@ -129,7 +137,9 @@ fn body_at(s: &[u8], at: usize) -> BodyState
     let registers = registers_at(s, d);
     let e = d + REGISTERS;
     let columns = columns_at(s, e);
-    let rows = rows_at(s, e + COLUMNS);
+    let f = e + COLUMNS;
+    let rows = rows_at(s, f);
+    let transfer = transfer_at(s, f + ROWS);
     BodyState {
         device,
         clock,
@@ -138,6 +148,7 @@ fn body_at(s: &[u8], at: usize) -> BodyState
         registers,
         columns,
         rows,
+        transfer,
     }
 }
 
@@ -297,6 +308,42 @@ fn cells_at(s: &[u8], at: usize) -> [u32; 16]
     out
 }
 
+fn transfer_at(s: &[u8], at: usize) -> Transfer
+    requires { ⌜ at + transferPart .size ≤ length (now s) ⌝ }
+    ensures { λ r. ⌜ Got transferPart (now (s .entry)) at r ⌝ }
+{
+    let progress = progress_at(s, at);
+    let a = at + 1;
+    let picking = picking_at(s, a);
+    let block = four_at(s, a + PICKING);
+    Transfer {
+        progress,
+        picking,
+        block,
+    }
+}
+
+fn picking_at(s: &[u8], at: usize) -> Picking
+    requires { ⌜ at + pickingPart .size ≤ length (now s) ⌝ }
+    ensures { λ r. ⌜ Got pickingPart (now (s .entry)) at r ⌝ }
+{
+    let kind = picking_kind_at(s, at);
+    let a = at + 1;
+    let after = clock_at(s, a);
+    let b = a + CLOCK;
+    let until = clock_at(s, b);
+    let c = b + CLOCK;
+    let from = four_at(s, c);
+    let to = four_at(s, c + 4);
+    Picking {
+        kind,
+        after,
+        until,
+        from,
+        to,
+    }
+}
+
 fn flag_at(s: &[u8], at: usize) -> bool
     requires { ⌜ at + flag .size ≤ length (now s) ⌝ }
     ensures { λ r. ⌜ Got flag (now (s .entry)) at r ⌝ }
@@ -316,6 +363,34 @@ fn phase_at(s: &[u8], at: usize) -> Phase
         return Phase::Pending;
     }
     Phase::Associated
+}
+
+fn progress_at(s: &[u8], at: usize) -> Progress
+    requires { ⌜ at + progress .size ≤ length (now s) ⌝ }
+    ensures { λ r. ⌜ Got progress (now (s .entry)) at r ⌝ }
+{
+    let b = s[at];
+    if b == 0 {
+        return Progress::Idle;
+    }
+    if b == 1 {
+        return Progress::Running;
+    }
+    Progress::Ended
+}
+
+fn picking_kind_at(s: &[u8], at: usize) -> PickingKind
+    requires { ⌜ at + pickingKind .size ≤ length (now s) ⌝ }
+    ensures { λ r. ⌜ Got pickingKind (now (s .entry)) at r ⌝ }
+{
+    let b = s[at];
+    if b == 0 {
+        return PickingKind::Whole;
+    }
+    if b == 1 {
+        return PickingKind::Dated;
+    }
+    PickingKind::Numbered
 }
 
 fn byte_at(s: &[u8], at: usize) -> u8

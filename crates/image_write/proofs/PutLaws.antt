@@ -3,18 +3,20 @@
 use mathlib.Core.Path.{_≡_, refl, subst, ap, ap₂, _∙_}
 use mathlib.Core.Bool.{Bool}
 use mathlib.Core.List.{List, [], _∷_, reverse}
-use Prim.Native.Nat.{ℕ, zero, suc, _+_, _*_, _/_, _%_, _^_, _<_}
+use Prim.Native.Nat.{ℕ, zero, suc, _+_, _*_, _/_, _%_, _^_, _≤_, _<_}
 use native.Mathlib.Nat.{mod-lt, pow-suc}
 use native.Mathlib.Omega.{arith}
 use lib.Arith.{mod-mul, digits-mod, digits-div}
 use lib.Dec.{lit<}
-use lib.ListN.{length-append}
+use lib.ListN.{length, length-append}
 use Rattle.wire.specs.Numbers.{lowFirst, highFirst}
 use Rattle.wire.specs.Wrote.{Wrote, WroteArray}
 use Rattle.wire.proofs.NumberLaws.{length-high}
 use Rattle.wire_write.proofs.WroteLaws.{then}
 use Rattle.line.specs.declared.Phase.{Phase}
-use Rattle.image.specs.Codec.{Codec, block, byte, number, flag, flagByte, phase, phaseByte, _&_, fields}
+use Rattle.picks.specs.declared.Progress.{Progress}
+use Rattle.picks.specs.declared.PickingKind.{PickingKind}
+use Rattle.image.specs.Codec.{Codec, block, byte, number, flag, flagByte, phase, phaseByte, progress, progressByte, pickingKind, kindByte, _&_, fields}
 use Rattle.image_write.specs.Writing.{Put}
 
 -- A number of eight bytes is written as two of four.
@@ -57,6 +59,14 @@ module _ {l m : List ℕ} {at next : ℕ} where
   unfolding phase
   put-phase x w = record { wrote = w; sized = refl; holds = tt }
 
+  pub put-progress : (x : Progress) → Wrote l at m next (progressByte x ∷ []) → Put progress x l at m next
+  unfolding progress
+  put-progress x w = record { wrote = w; sized = refl; holds = tt }
+
+  pub put-kind : (x : PickingKind) → Wrote l at m next (kindByte x ∷ []) → Put pickingKind x l at m next
+  unfolding pickingKind
+  put-kind x w = record { wrote = w; sized = refl; holds = tt }
+
 pub put-both : {A B : Type 0} {a : Codec A} {b : Codec B} {x : A} {y : B} {l m n : List ℕ} {at k next : ℕ}
     → Put a x l at m k → Put b y m k n next → Put (a & b) (x, y) l at n next
 put-both {a = a} {b = b} {x = x} {y = y} p q =
@@ -69,3 +79,7 @@ put-both {a = a} {b = b} {x = x} {y = y} p q =
 pub put-fields : {A B : Type 0} {c : Codec A} (to : B → A) (from : A → B) {x : B} {l m : List ℕ} {at next : ℕ} → Put c (to x) l at m next → Put (fields to from c) x l at m next
 unfolding fields
 put-fields to from w = record { wrote = w .wrote; sized = w .sized; holds = w .holds }
+
+-- what a part leaves of the room, for those behind it
+pub room-left : {A : Type 0} {c : Codec A} {x : A} {l m : List ℕ} {at next : ℕ} (n : ℕ) → Put c x l at m next → at + (c .size + n) ≤ length l → next + n ≤ length m
+room-left n p h = omega (arith, p .wrote .next, p .wrote .kept, p .sized)

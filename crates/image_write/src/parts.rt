@@ -9,6 +9,10 @@ use model::Clock;
 use model::Counters;
 use model::Name;
 use model::Register;
+use picks::Picking;
+use picks::PickingKind;
+use picks::Progress;
+use picks::Transfer;
 use store::Columns;
 use store::Registers;
 use store::Row;
@@ -16,8 +20,8 @@ use store::Rows;
 ghost use Prim.Native.Nat.{_+_, _≤_};
 ghost use lib.ListN.{length};
 ghost use Rattle.wire.specs.Wrote.{WroteArray};
-ghost use Rattle.image.specs.Codec.{flag, many, number, phase};
-ghost use Rattle.image.specs.Layout.{bodyPart, cipherPartyPart, clockPart, columnsPart, countersPart, linePart, meterPart, namePart, partyPart, registerPart, registersPart, rowPart, rowsPart};
+ghost use Rattle.image.specs.Codec.{flag, many, number, phase, pickingKind, progress};
+ghost use Rattle.image.specs.Layout.{bodyPart, cipherPartyPart, clockPart, columnsPart, countersPart, linePart, meterPart, namePart, partyPart, pickingPart, registerPart, registersPart, rowPart, rowsPart, transferPart};
 ghost use Rattle.image_write.specs.Writing.{Put};
 
 pub fn put_meter(out: &mut [u8], at: usize, meter: Meter) -> usize
@@ -88,7 +92,9 @@ fn put_body(out: &mut [u8], at: usize, body: BodyState) -> usize
     let columns = body.columns;
     let f = put_columns(out, e, columns);
     let rows = body.rows;
-    put_rows(out, f, rows)
+    let g = put_rows(out, f, rows);
+    let transfer = body.transfer;
+    put_transfer(out, g, transfer)
 }
 
 fn put_name(out: &mut [u8], at: usize, name: Name) -> usize
@@ -211,6 +217,31 @@ fn put_cells(out: &mut [u8], at: usize, cells: [u32; 16]) -> usize
     k
 }
 
+fn put_transfer(out: &mut [u8], at: usize, transfer: Transfer) -> usize
+    requires { ⌜ at + transferPart .size ≤ length (now out) ⌝ }
+    ensures { λ r. ⌜ Put transferPart transfer (now (out .entry)) at (now (out .exit)) r ⌝ }
+{
+    let p = transfer.progress;
+    let a = put_progress(out, at, p);
+    let picking = transfer.picking;
+    let b = put_picking(out, a, picking);
+    put_four(out, b, transfer.block)
+}
+
+fn put_picking(out: &mut [u8], at: usize, picking: Picking) -> usize
+    requires { ⌜ at + pickingPart .size ≤ length (now out) ⌝ }
+    ensures { λ r. ⌜ Put pickingPart picking (now (out .entry)) at (now (out .exit)) r ⌝ }
+{
+    let k = picking.kind;
+    let a = put_kind(out, at, k);
+    let after = picking.after;
+    let b = put_clock(out, a, after);
+    let until = picking.until;
+    let c = put_clock(out, b, until);
+    let d = put_four(out, c, picking.from);
+    put_four(out, d, picking.to)
+}
+
 fn put_flag(out: &mut [u8], at: usize, b: bool) -> usize
     requires { ⌜ at + flag .size ≤ length (now out) ⌝ }
     ensures { λ r. ⌜ Put flag b (now (out .entry)) at (now (out .exit)) r ⌝ }
@@ -229,6 +260,28 @@ fn put_phase(out: &mut [u8], at: usize, p: Phase) -> usize
         Phase::Idle => wire_write::put(out, at, 0),
         Phase::Pending => wire_write::put(out, at, 1),
         Phase::Associated => wire_write::put(out, at, 2),
+    }
+}
+
+fn put_progress(out: &mut [u8], at: usize, p: Progress) -> usize
+    requires { ⌜ at + progress .size ≤ length (now out) ⌝ }
+    ensures { λ r. ⌜ Put progress p (now (out .entry)) at (now (out .exit)) r ⌝ }
+{
+    match p {
+        Progress::Idle => wire_write::put(out, at, 0),
+        Progress::Running => wire_write::put(out, at, 1),
+        Progress::Ended => wire_write::put(out, at, 2),
+    }
+}
+
+fn put_kind(out: &mut [u8], at: usize, k: PickingKind) -> usize
+    requires { ⌜ at + pickingKind .size ≤ length (now out) ⌝ }
+    ensures { λ r. ⌜ Put pickingKind k (now (out .entry)) at (now (out .exit)) r ⌝ }
+{
+    match k {
+        PickingKind::Whole => wire_write::put(out, at, 0),
+        PickingKind::Dated => wire_write::put(out, at, 1),
+        PickingKind::Numbered => wire_write::put(out, at, 2),
     }
 }
 

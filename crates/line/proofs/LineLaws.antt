@@ -1,6 +1,6 @@
 -- Services of three bytes, compared byte by byte; and what is left in a line on which nothing has happened.
 use mathlib.Core.Path.{_≡_, refl}
-use mathlib.Core.Bool.{Bool, true, _&&_}
+use mathlib.Core.Bool.{Bool, true, false, _&&_}
 use mathlib.Core.List.{List, [], _∷_}
 use Prim.Native.Nat.{ℕ}
 use native.Mathlib.Omega.{arith}
@@ -28,6 +28,12 @@ within-three (a ∷ b ∷ c ∷ []) (d ∷ []) h k = absurd (omega arith)
 within-three (a ∷ b ∷ c ∷ []) (d ∷ e ∷ []) h k = absurd (omega arith)
 within-three (a ∷ b ∷ c ∷ []) (d ∷ e ∷ f ∷ g ∷ os) h k = absurd (omega arith)
 within-three (a ∷ b ∷ c ∷ []) (d ∷ e ∷ f ∷ []) h k = refl
+
+-- nothing lies within the services of no association
+pub within-none : (a : List ℕ) → length a ≡ 3 → false ≡ within a []
+unfolding within
+within-none [] h = absurd (omega arith)
+within-none (a ∷ xs) h = refl
 
 -- nothing is left of any client's association
 pub started-wiped : (t v h : List ℕ) (f : Bool) (c : Client) → Wiped c (startedLine t v h f)

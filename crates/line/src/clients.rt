@@ -8,6 +8,7 @@ use model::Client;
 use model::Counters;
 ghost use mathlib.Core.Path.{_≡_};
 ghost use Rattle.model.specs.Clients.{counters, held, peer};
+ghost use Rattle.model.specs.Soundness.{hasAgreed, takesBlocks};
 ghost use Rattle.line.specs.Canonical.{agreedIn, clientChallenge, keyIn, meterChallenge};
 ghost use Rattle.line.specs.Parties.{partyOf, withCipher};
 ghost use Rattle.line.specs.View.{cipherOf, lineOf};
@@ -76,6 +77,30 @@ pub fn agreed_in(line: LineState, client: Client) -> [u8; 3]
         Phase::Pending => p.agreed,
         Phase::Associated => p.agreed,
     }
+}
+
+// Whether H is associated, with this service agreed.
+pub fn has_agreed(line: LineState, service: [u8; 3]) -> bool
+    ensures { λ r. ⌜ r ≡ hasAgreed service (lineOf line) ⌝ }
+{
+    let p = line.han.party;
+    let phase = p.phase;
+    let agreed = p.agreed;
+    match phase {
+        Phase::Idle => false,
+        Phase::Pending => false,
+        Phase::Associated => crate::is_within(service, agreed),
+    }
+}
+
+// Whether H can ask for a read in blocks: GET and block transfer were agreed.
+pub fn takes_blocks(line: LineState) -> bool
+    ensures { λ r. ⌜ r ≡ takesBlocks (lineOf line) ⌝ }
+{
+    if !has_agreed(line, [0x00, 0x00, 0x10]) {
+        return false;
+    }
+    has_agreed(line, [0x00, 0x10, 0x00])
 }
 
 // The dedicated key of a client that ciphers; zeros where it has no association.

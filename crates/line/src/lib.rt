@@ -6,10 +6,12 @@ pub use clients::agreed_in;
 pub use clients::cipher_of;
 pub use clients::client_challenge;
 pub use clients::counters_of;
+pub use clients::has_agreed;
 pub use clients::is_up;
 pub use clients::key_in;
 pub use clients::meter_challenge;
 pub use clients::party_of;
+pub use clients::takes_blocks;
 pub use clients::title_of;
 pub use clients::with_cipher;
 pub use clients::with_verification;
@@ -100,7 +102,7 @@ pub fn services_offered(line: LineState) -> bool
         return false;
     }
     let p = line.han.party;
-    agreed_within(p, [0x00, 0x00, 0x15])
+    agreed_within(p, [0x00, 0x10, 0x15])
 }
 
 // No association stands on a link that is down.

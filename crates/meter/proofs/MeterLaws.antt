@@ -1,7 +1,7 @@
 -- Soundness of the whole from its two halves, and the three ways in which an owner's call ends: refused by 3, refused by its
 -- own number, accepted; then, for each call, that the meter in code is the one that the model says.
 use mathlib.Core.Path.{_≡_, refl, sym, _∙_}
-use mathlib.Core.Bool.{Bool, true, false, _&&_, and-assoc, and-true}
+use mathlib.Core.Bool.{Bool, true, false, _&&_, and-assoc, and-true, and-false}
 use mathlib.Core.List.{[]}
 use Prim.Native.Nat.{ℕ}
 use Rattle.model.specs.declared.Name.{Name}
@@ -10,7 +10,8 @@ use Rattle.model.specs.Names.{given}
 use Rattle.model.specs.Clocks.{validClock}
 use Rattle.model.specs.Periods.{permittedPeriod}
 use Rattle.model.specs.declared.SoundnessTest.the-variants.{RegisterList, ColumnList, PeriodPermitted, ClockValid, RowClocksValid, RowCount, RowCells, AssociationKind, AssociationOnLink, AgreedServices}
-use Rattle.model.specs.Soundness.{passes, acceptedRegisters, acceptedColumns, sound, lineSound}
+use Rattle.model.specs.State.{broken}
+use Rattle.model.specs.Soundness.{passes, acceptedRegisters, acceptedColumns, allowed, goesOn, sound, lineSound}
 use Rattle.model.specs.Calls.{OwnerCall, owner, giveRegisters, setValue, setColumns, setPeriod, tick, setP5, powerUp, refused, done, Protocol, ticked, poweredLine, act, step}
 use Rattle.model.proofs.ListLaws.{both}
 use Rattle.store.specs.declared.Registers.{Registers}
@@ -19,6 +20,9 @@ use Rattle.store.specs.declared.Rows.{Rows}
 use Rattle.store.specs.declared.Assigned.{Assigned}
 use Rattle.store.specs.Lists.{registersOf, columnsOf, entriesOf}
 use Rattle.store.specs.Promises.{Assigns}
+use Rattle.picks.specs.declared.Transfer.{Transfer}
+use Rattle.picks.specs.Canonical.{noTransfer}
+use Rattle.picks.specs.Transfers.{transferOf}
 use Rattle.line.specs.declared.LineState.{LineState}
 use Rattle.line.specs.View.{lineOf}
 use Rattle.body.specs.declared.BodyState.{BodyState}
@@ -30,19 +34,23 @@ use Rattle.meter.specs.Promise.{Owned, changed}
 
 -- Soundness.
 
-regroup : (a b c d e f g h i j : Bool) → a && (b && (c && (d && (e && (f && (g && (h && (i && (j && true)))))))))
-    ≡ a && (b && (c && (d && (e && (f && g))))) && (h && i && j)
-regroup a b c d e f g h i j = simp (and-assoc, and-true)
+-- what a transfer asks of the rows, x, stands with the rows, and what it asks of the line, k, with the line
+regroup : (a b c d e f g h i j k x : Bool) → a && (b && (c && (d && (e && (f && (g && (h && (i && (j && (k && x && true))))))))))
+    ≡ a && (b && (c && (d && (e && (f && g) && x)))) && (h && i && j && k)
+regroup a b c d e f g h i j k true = simp (and-assoc, and-true)
+regroup a b c d e f g h i j k false = simp (and-assoc, and-false)
 
-pub sound-is : (m : Meter) → sound (view m) ≡ (bodySound (bodyOf (m .body)) && lineSound (lineOf (m .line)))
-unfolding sound bodySound rowsSound view
+pub sound-is : (m : Meter)
+    → sound (view m) ≡ (bodySound (bodyOf (m .body)) && (lineSound (lineOf (m .line)) && allowed (lineOf (m .line)) (transferOf (m .body .transfer))))
+unfolding sound bodySound rowsSound view bodyOf
 sound-is m =
     regroup (passes RegisterList (view m)) (passes ColumnList (view m)) (passes PeriodPermitted (view m)) (passes ClockValid (view m))
     (passes RowClocksValid (view m)) (passes RowCount (view m)) (passes RowCells (view m)) (passes AssociationKind (view m))
-    (passes AssociationOnLink (view m)) (passes AgreedServices (view m))
+    (passes AssociationOnLink (view m)) (passes AgreedServices (view m)) (allowed (view m .line) (view m .body .transfer))
+    (goesOn (view m .body .store) (view m .body .transfer))
 
 pub sound-body : (m : Meter) → sound (view m) ≡ true → bodySound (bodyOf (m .body)) ≡ true
-sound-body m s = both (bodySound (bodyOf (m .body))) (lineSound (lineOf (m .line))) (sym (sound-is m) ∙ s) .0
+sound-body m s = both (bodySound (bodyOf (m .body))) _ (sym (sound-is m) ∙ s) .0
 
 pub fits : (m : Meter) → sound (view m) ≡ true → Fit (m .body)
 fits m s = sound-fits (m .body) (sound-body m s)
@@ -67,26 +75,27 @@ module _ (c : OwnerCall) (m : Meter) where
 abbrev pub withBodyState : BodyState → Meter → Meter
 withBodyState b m = record { line = m .line; body = b }
 
-abbrev pub withStores : Registers → Columns → Rows → BodyState → BodyState
-withStores r c w b =
-    record { device = b .device; clock = b .clock; period = b .period; number = b .number; registers = r; columns = c; rows = w }
+abbrev pub withStores : Registers → Columns → Rows → Transfer → BodyState → BodyState
+withStores r c w x b =
+    record { device = b .device; clock = b .clock; period = b .period; number = b .number; registers = r; columns = c; rows = w; transfer = x }
 
 module _ (p : Protocol) (m : Meter) where
   pub registers-refused : (s : Registers) → acceptedRegisters (registersOf s) ≡ false → act p (owner (giveRegisters (registersOf s))) (view m) ≡ refused 16 (view m)
   unfolding act
   registers-refused s h = rw h
 
-  pub registers-given : (s : Registers) (c : Columns) (w : Rows) → acceptedRegisters (registersOf s) ≡ true → columnsOf c ≡ [] → entriesOf w ≡ []
-      → act p (owner (giveRegisters (registersOf s))) (view m) ≡ done (view (withBodyState (withStores s c w (m .body)) m))
+  pub registers-given : (s : Registers) (c : Columns) (w : Rows) (x : Transfer) → acceptedRegisters (registersOf s) ≡ true → columnsOf c ≡ [] → entriesOf w ≡ []
+      → transferOf x ≡ broken (transferOf (m .body .transfer))
+      → act p (owner (giveRegisters (registersOf s))) (view m) ≡ done (view (withBodyState (withStores s c w x (m .body)) m))
   unfolding act view bodyOf
-  registers-given s c w h e f = rw (h, e, f)
+  registers-given s c w x h e f g = rw (h, e, f, g)
 
   pub value-refused : (n : Name) (v : ℕ) → given n (registersOf (m .body .registers)) ≡ false → act p (owner (setValue n v)) (view m) ≡ refused 17 (view m)
   unfolding act view bodyOf
   value-refused n v h = rw h
 
   pub value-set : (n : Name) (v : ℕ) (a : Assigned) → Assigns (m .body .registers) n v a → a .found ≡ true
-      → act p (owner (setValue n v)) (view m) ≡ done (view (withBodyState (withStores (a .registers) (m .body .columns) (m .body .rows) (m .body)) m))
+      → act p (owner (setValue n v)) (view m) ≡ done (view (withBodyState (withStores (a .registers) (m .body .columns) (m .body .rows) (m .body .transfer) (m .body)) m))
   unfolding act view bodyOf
   value-set n v a h t = rw (sym (h .found) ∙ t, h .set t)
 
@@ -94,10 +103,11 @@ module _ (p : Protocol) (m : Meter) where
   unfolding act view bodyOf
   columns-refused c h = rw h
 
-  pub columns-set : (c : Columns) (w : Rows) → acceptedColumns (registersOf (m .body .registers)) (columnsOf c) ≡ true → entriesOf w ≡ []
-      → act p (owner (setColumns (columnsOf c))) (view m) ≡ done (view (withBodyState (withStores (m .body .registers) c w (m .body)) m))
+  pub columns-set : (c : Columns) (w : Rows) (x : Transfer) → acceptedColumns (registersOf (m .body .registers)) (columnsOf c) ≡ true → entriesOf w ≡ []
+      → transferOf x ≡ broken (transferOf (m .body .transfer))
+      → act p (owner (setColumns (columnsOf c))) (view m) ≡ done (view (withBodyState (withStores (m .body .registers) c w x (m .body)) m))
   unfolding act view bodyOf
-  columns-set c w h e = rw (h, e)
+  columns-set c w x h e f = rw (h, e, f)
 
   pub period-refused : (d : ℕ) → permittedPeriod d ≡ false → act p (owner (setPeriod d)) (view m) ≡ refused 15 (view m)
   unfolding act
@@ -105,7 +115,7 @@ module _ (p : Protocol) (m : Meter) where
 
   pub period-set : (d : ℕ) → permittedPeriod d ≡ true
       → act p (owner (setPeriod d)) (view m)
-      ≡ done (view (withBodyState (record { device = m .body .device; clock = m .body .clock; period = d; number = m .body .number; registers = m .body .registers; columns = m .body .columns; rows = m .body .rows }) m))
+      ≡ done (view (withBodyState (record { device = m .body .device; clock = m .body .clock; period = d; number = m .body .number; registers = m .body .registers; columns = m .body .columns; rows = m .body .rows; transfer = m .body .transfer }) m))
   unfolding act view bodyOf
   period-set d h = rw h
 
@@ -122,8 +132,8 @@ module _ (p : Protocol) (m : Meter) where
   unfolding act view lineOf
   p5-set f = refl
 
-  pub powered : (l : LineState) (w : Rows) → lineOf l ≡ poweredLine (lineOf (m .line)) → entriesOf w ≡ []
+  pub powered : (l : LineState) (w : Rows) (x : Transfer) → lineOf l ≡ poweredLine (lineOf (m .line)) → entriesOf w ≡ [] → x ≡ noTransfer
       → act p (owner powerUp) (view m)
-      ≡ done (view (record { line = l; body = record { device = m .body .device; clock = m .body .clock; period = m .body .period; number = 0; registers = m .body .registers; columns = m .body .columns; rows = w } }))
-  unfolding act view bodyOf
-  powered l w e f = rw (e, f)
+      ≡ done (view (record { line = l; body = record { device = m .body .device; clock = m .body .clock; period = m .body .period; number = 0; registers = m .body .registers; columns = m .body .columns; rows = w; transfer = x } }))
+  unfolding act view bodyOf transferOf
+  powered l w x e f g = rw (e, f, g)

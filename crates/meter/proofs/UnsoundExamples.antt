@@ -2,28 +2,32 @@
 -- call, as every unsound meter does.
 use mathlib.Core.Path.{_≡_, refl, sym, _∙_, ap}
 use mathlib.Core.Bool.{false}
-use mathlib.Core.List.{List, _∷_, map, List·Memᴰ, List·Memᴰ·head, List·Memᴰ·tail, head-eq-of-cons-eq, tail-eq-of-cons-eq}
+use mathlib.Core.List.{List, _∷_, map, flatMap, List·Memᴰ, List·Memᴰ·head, List·Memᴰ·tail, head-eq-of-cons-eq, tail-eq-of-cons-eq}
 use native.Mathlib.Omega.{arith}
+use Rattle.wire.specs.Numbers.{lengthField}
 use Rattle.wire.specs.Reading.{sameBytes}
-use Rattle.model.specs.Limits.{maxRows, maxRegisters, maxColumns}
-use Rattle.model.specs.Clocks.{validClock, realDate, realTime, fixedBytes, daysIn, februaryDays}
+use Rattle.model.specs.Limits.{longestSent, apduRoom, envelopeLength, greatestText, textRoom, dataRoom, blockLength, greatestBlock, blockRoom, maxRows, maxRegisters, maxColumns}
+use Rattle.model.specs.Clocks.{validClock, realDate, realTime, fixedBytes, daysIn, februaryDays, daysOfMonths, daysOfYears, dayNumber, moment, later, inRange}
 use Rattle.model.specs.Periods.{periods}
 use Rattle.model.specs.Services.{within}
-use Rattle.model.specs.Soundness.{acceptedRegisters, acceptedColumns, sound}
+use Rattle.model.specs.Selecting.{goodRange}
+use Rattle.model.specs.Objects.{rowData, rowsData, entriesWrong, entries}
+use Rattle.model.specs.Soundness.{acceptedRegisters, acceptedColumns, allowed, goesOn, sound}
 use Rattle.model.specs.Calls.{OwnerCall, step}
 use Rattle.store.specs.Lists.{registersOf, columnsOf, entriesOf}
+use Rattle.picks.specs.Transfers.{pickingOf, transferOf}
 use Rattle.line.specs.View.{lineOf}
 use Rattle.body.specs.View.{bodyOf}
 use Rattle.meter.specs.declared.Meter.{Meter}
 use Rattle.meter.specs.declared.Changed.{Changed}
 use Rattle.meter.specs.View.{view}
 use Rattle.meter.specs.Promise.{Owned}
-use Rattle.meter.specs.Unsound.{Verdict, soundMeter, unsoundMeters, sixteenRows, VerdictsRight, UnsoundAnswers3, TableAnswers3}
+use Rattle.meter.specs.Unsound.{Verdict, soundMeter, longMeters, unsoundMeters, sixteenRows, VerdictsRight, UnsoundAnswers3, TableAnswers3}
 use Rattle.meter.proofs.OwnedLaws.{owned-refusal}
 
 pub verdicts-right : VerdictsRight
-unfolding soundMeter unsoundMeters sixteenRows view lineOf bodyOf registersOf columnsOf entriesOf sound acceptedRegisters acceptedColumns validClock realDate realTime fixedBytes daysIn februaryDays periods within sameBytes maxRows maxRegisters maxColumns
-verdicts-right = record { sound = refl; unsound = refl; sixteen = refl }
+unfolding soundMeter longMeters unsoundMeters sixteenRows view lineOf bodyOf registersOf columnsOf entriesOf transferOf pickingOf sound allowed goesOn acceptedRegisters acceptedColumns validClock realDate realTime fixedBytes daysIn februaryDays periods within sameBytes goodRange later inRange moment dayNumber daysOfYears daysOfMonths entries entriesWrong rowsData rowData flatMap lengthField longestSent dataRoom blockRoom greatestBlock blockLength textRoom greatestText envelopeLength apduRoom maxRows maxRegisters maxColumns
+verdicts-right = record { sound = refl; long = refl; unsound = refl; sixteen = refl }
 
 -- Refusal 3.
 

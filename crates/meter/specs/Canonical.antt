@@ -1,5 +1,5 @@
--- The one meter of the code for what a meter holds. The view of a meter says nothing of the places above a count, nor of the
--- fields of an association that has ended: here they are zeros, so that what is held fixes the meter whole.
+-- The one meter of the code for what a meter holds. The view of a meter says nothing of the places above a count, of the fields of
+-- an association that has ended, and of those that a transfer does not use: here they are zeros, so that what is held fixes the meter whole.
 use mathlib.Core.Path.{_≡_}
 use mathlib.Core.Bool.{true}
 use Rattle.model.specs.State.{Model}

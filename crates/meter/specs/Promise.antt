@@ -18,8 +18,8 @@ abbrev pub handed : Changed → Handed Meter view
 handed r = record { refusal = r .refusal; count = 0; meter = r .meter; before = []; after = [] }
 
 -- the model's promise, whatever protocol frames go by; and where the call is refused, the very meter comes back. Where it is
--- accepted, what the view does not show is free: the places above a count, and the fields of an association that is over or no
--- longer pending (`cleared` makes them zeros)
+-- accepted, what the view does not show is free: the places above a count, the fields of an association that is over or no longer
+-- pending, and those that a transfer does not use (`cleared` makes them zeros)
 pub record Owned (c : OwnerCall) (m : Meter) (r : Changed) : Type 0 where
   pub promised : (p : Protocol) → Promised Meter view p (owner c) m (handed r)
   pub kept : (r .refusal ≡ 0 → ⊥) → r .meter ≡ m

@@ -1,6 +1,7 @@
--- Meters that are unsound, each by a small change of one sound meter, in the order of document 01's "A state is sound when ..".
--- Beside each stand the tests of soundness that it fails: one, save for sixteen rows. proofs/UnsoundExamples computes all of
--- it, and that every owner's call answers 3 to each.
+-- Meters that are unsound, each by a small change of one sound meter, in the order of document 01's "A state is sound when ..";
+-- and, for document 02, Q-4, each by a small change of one whose rows are long, with a transfer that it could not have been left
+-- with. Beside each stand the tests of soundness that it fails: one, save for sixteen rows. proofs/UnsoundExamples computes all
+-- of it, and that every owner's call answers 3 to each.
 use mathlib.Core.Path.{_≡_}
 use mathlib.Core.Bool.{Bool, true, false, cond, _&&_}
 use mathlib.Core.List.{List, [], _∷_, map, List·Memᴰ}
@@ -15,7 +16,7 @@ use Rattle.model.specs.Names.{every, distinct, allAmong, noneAmong, nameOf}
 use Rattle.model.specs.State.{Model, withBody, withStore, withRows}
 use Rattle.model.specs.Objects.{ownNames, profileNamed}
 use Rattle.model.specs.declared.SoundnessTest.{SoundnessTest}
-use Rattle.model.specs.declared.SoundnessTest.the-variants.{RegisterList, ColumnList, PeriodPermitted, ClockValid, RowClocksValid, RowCount, RowCells, AssociationKind, AssociationOnLink, AgreedServices}
+use Rattle.model.specs.declared.SoundnessTest.the-variants.{RegisterList, ColumnList, PeriodPermitted, ClockValid, RowClocksValid, RowCount, RowCells, AssociationKind, AssociationOnLink, AgreedServices, TransferPossible}
 use Rattle.model.specs.Soundness.{passes, soundnessTests, sound}
 use Rattle.model.specs.Calls.{OwnerCall}
 use Rattle.store.specs.declared.Registers.{Registers}
@@ -23,8 +24,10 @@ use Rattle.store.specs.declared.Columns.{Columns}
 use Rattle.store.specs.declared.Row.{Row}
 use Rattle.store.specs.declared.Rows.{Rows}
 use Rattle.store.specs.Lists.{entryOf}
+use Rattle.picks.specs.declared.Transfer.{Transfer}
+use Rattle.picks.specs.Canonical.{wholePicking, datedPicking, numberedPicking, noTransfer, runningTransfer, endedTransfer}
 use Rattle.line.specs.declared.Phase.{Phase}
-use Rattle.line.specs.declared.Phase.the-variants.{Pending, Associated}
+use Rattle.line.specs.declared.Phase.the-variants.{Idle, Pending, Associated}
 use Rattle.line.specs.declared.Party.{Party}
 use Rattle.line.specs.declared.LineState.{LineState}
 use Rattle.body.specs.declared.BodyState.{BodyState}
@@ -81,6 +84,11 @@ holdsRegister r = bytes 6 (r .name .bytes) && (ltb (r .scaler) 0x100 && (ltb (r 
 abbrev pub holdsRow : Row → Bool
 holdsRow r = ltb (r .number) 0x10000 && (bytes 12 (r .clock .bytes) && (usize (r .count) && array 16 u32 (r .cells)))
 
+abbrev pub holdsTransfer : Transfer → Bool
+holdsTransfer t =
+    bytes 12 (t .picking .after .bytes)
+    && (bytes 12 (t .picking .until .bytes) && (u32 (t .picking .from) && (u32 (t .picking .to) && u32 (t .block))))
+
 abbrev pub holdsBody : BodyState → Bool
 holdsBody b =
     bytes 16 (b .device)
@@ -91,7 +99,7 @@ holdsBody b =
     && (array 16 holdsRegister (b .registers .items)
     && (usize (b .columns .count)
     && (array 16 (λ n. bytes 6 (n .bytes)) (b .columns .items)
-    && (usize (b .rows .count) && array 15 holdsRow (b .rows .items)))))))))
+    && (usize (b .rows .count) && (array 15 holdsRow (b .rows .items) && holdsTransfer (b .transfer))))))))))
 
 abbrev pub holdsParty : Party → Bool
 holdsParty p = bytes 8 (p .title) && bytes 3 (p .agreed)
@@ -145,12 +153,16 @@ row t n = record { number = 4; clock = t; count = n; cells = replicate 16 7 }
 abbrev pub rows : ℕ → Row → Rows
 rows n r = record { count = n; items = r ∷ replicate 14 (row (clock 3 1 2) (r .count)) }
 
--- a client whose link is up or down, in a phase, with services whose last byte is this
-abbrev pub party : Bool → Phase → ℕ → Party
-party up p s = record { title = replicate 8 0x41; up = up; phase = p; agreed = 0x00 ∷ 0x00 ∷ s ∷ [] }
+-- a client whose link is up or down, in a phase, with services whose last two bytes are these
+abbrev pub partyOf : Bool → Phase → (second third : ℕ) → Party
+partyOf up p a s = record { title = replicate 8 0x41; up = up; phase = p; agreed = 0x00 ∷ a ∷ s ∷ [] }
 
-abbrev pub meterOf : (verification han : Party) → Clock → (period : ℕ) → Registers → Columns → Rows → Meter
-meterOf v h t p rs cs es =
+-- the same with no block transfer
+abbrev pub party : Bool → Phase → ℕ → Party
+party up p s = partyOf up p 0x00 s
+
+abbrev pub meterWith : Transfer → (verification han : Party) → Clock → (period : ℕ) → Registers → Columns → Rows → Meter
+meterWith x v h t p rs cs es =
     record {
       line = record {
         title = replicate 8 0x4D;
@@ -164,8 +176,20 @@ meterOf v h t p rs cs es =
         };
         p5 = false;
       };
-      body = record { device = replicate 16 0x30; clock = t; period = p; number = 4; registers = rs; columns = cs; rows = es };
+      body = record {
+        device = replicate 16 0x30;
+        clock = t;
+        period = p;
+        number = 4;
+        registers = rs;
+        columns = cs;
+        rows = es;
+        transfer = x;
+      };
     }
+
+abbrev pub meterOf : (verification han : Party) → Clock → (period : ℕ) → Registers → Columns → Rows → Meter
+meterOf v h t p rs cs es = meterWith noTransfer v h t p rs cs es
 
 -- Its own: both clients are associated, three registers are given, two of them are columns, and there are two rows.
 
@@ -189,6 +213,48 @@ taken = rows 2 (row now 2)
 
 unfoldable pub soundMeter : Meter
 soundMeter = meterOf v h now 900 three two taken
+
+-- Meters whose rows are long: sixteen columns and fifteen rows, 1487 bytes, which H reads in three blocks.
+
+-- H in a phase, on its link
+abbrev pub reader : Phase → (second third : ℕ) → Party
+reader p a s = partyOf true p a s
+
+-- all that H is offered was agreed
+abbrev pub whole : Party
+whole = reader Associated 0x10 0x15
+
+-- beside a reader, with this many columns, all of them in each of fifteen rows
+abbrev pub longMeter : Party → ℕ → Transfer → Meter
+longMeter r n x = meterWith x v r now 900 (registers 16 names) (columns n names) (rows 15 (row now n))
+
+-- transfers of all rows, of those from one place to another, and of those of a stretch of time, after this block
+abbrev pub ofAll : ℕ → Transfer
+ofAll k = runningTransfer wholePicking k
+
+abbrev pub ofEntries : (from to k : ℕ) → Transfer
+ofEntries m n k = runningTransfer (numberedPicking m n) k
+
+abbrev pub ofRange : (after until : Clock) → ℕ → Transfer
+ofRange a b k = runningTransfer (datedPicking a b) k
+
+-- an hour before all rows
+abbrev pub before : Clock
+before = clock 3 1 1
+
+-- sound: one that was ended, whatever rows there are now; one after each block but the last; of some rows, and of a range
+unfoldable pub longMeters : List Meter
+longMeters =
+    longMeter whole 16 noTransfer
+    ∷ longMeter whole 16 endedTransfer
+    ∷ meterWith endedTransfer v whole now 900 three two taken
+    ∷ longMeter whole 16 (ofAll 1)
+    ∷ longMeter whole 16 (ofAll 2)
+    ∷ longMeter (reader Associated 0x10 0x11) 16 (ofAll 1)
+    ∷ longMeter whole 16 (ofEntries 2 0 1)
+    ∷ longMeter whole 16 (ofEntries 8 0 1)
+    ∷ longMeter whole 16 (ofRange before now 2)
+    ∷ []
 
 -- The unsound meters.
 
@@ -238,6 +304,36 @@ unsoundMeters =
     ∷ fails AgreedServices (meterOf (party true Associated 0x15) h now 900 three two taken)
     ∷ fails AgreedServices (meterOf v (party true Pending 0x17) now 900 three two taken)
     ∷ fails AgreedServices (meterOf v (party true Associated 0x17) now 900 three two taken)
+    -- a transfer that was ended, without an association, without block transfer agreed, and without GET; one that runs without these
+    ∷ fails TransferPossible (longMeter (reader Idle 0x10 0x15) 16 endedTransfer)
+    ∷ fails TransferPossible (longMeter (reader Associated 0x00 0x15) 16 endedTransfer)
+    ∷ fails TransferPossible (longMeter (reader Associated 0x10 0x05) 16 endedTransfer)
+    ∷ fails TransferPossible (longMeter (reader Idle 0x10 0x15) 16 (ofAll 1))
+    ∷ fails TransferPossible (longMeter (reader Associated 0x00 0x15) 16 (ofAll 1))
+    ∷ fails TransferPossible (longMeter (reader Associated 0x10 0x05) 16 (ofAll 1))
+    -- while the association is pending: ended, and running
+    ∷ fails TransferPossible (longMeter (reader Pending 0x10 0x15) 16 endedTransfer)
+    ∷ fails TransferPossible (longMeter (reader Pending 0x10 0x15) 16 (ofAll 1))
+    -- by a selector, without selective access agreed
+    ∷ fails TransferPossible (longMeter (reader Associated 0x10 0x11) 16 (ofEntries 2 0 1))
+    ∷ fails TransferPossible (longMeter (reader Associated 0x10 0x11) 16 (ofRange before now 1))
+    -- of a range whose from is not before its to; of ones that begin and end on 29 February 2017; of one in which no row lies; of
+    -- entries that would be code 13, by their first place, their order, and more places than rows
+    ∷ fails TransferPossible (longMeter whole 16 (ofRange now now 1))
+    ∷ fails TransferPossible (longMeter whole 16 (ofRange (clock 2 29 2) now 1))
+    ∷ fails TransferPossible (longMeter whole 16 (ofRange before (clock 2 29 2) 1))
+    ∷ fails TransferPossible (longMeter whole 16 (ofRange (clock 3 1 0) before 1))
+    ∷ fails TransferPossible (longMeter whole 16 (ofEntries 0 15 1))
+    ∷ fails TransferPossible (longMeter whole 16 (ofEntries 5 3 1))
+    ∷ fails TransferPossible (longMeter whole 16 (ofEntries 16 0 1))
+    -- of data that fit one frame: six columns, 737 bytes, though not one block; and the last six rows of sixteen
+    ∷ fails TransferPossible (longMeter whole 6 (ofAll 1))
+    ∷ fails TransferPossible (longMeter whole 16 (ofEntries 10 0 1))
+    -- after block 0; after the last block, of all rows and of fourteen; after a block far behind it
+    ∷ fails TransferPossible (longMeter whole 16 (ofAll 0))
+    ∷ fails TransferPossible (longMeter whole 16 (ofAll 3))
+    ∷ fails TransferPossible (longMeter whole 16 (ofEntries 2 0 2))
+    ∷ fails TransferPossible (longMeter whole 16 (ofAll 0xFFFFFFFF))
     ∷ []
 
 -- "at most 15 rows" by itself: what the sound meter holds, with sixteen rows that are otherwise as they should be. The
@@ -249,9 +345,13 @@ sixteenRows =
 
 -- What is proved of them.
 
--- the sound meter fails nothing, each of the others what stands beside it and nothing else, and the struct can hold them all
+abbrev pub noFault : Verdict
+noFault = record { holdable = true; isSound = true; tests = []; rules = [] }
+
+-- the sound meters fail nothing, each of the others what stands beside it and nothing else, and the struct can hold them all
 pub record VerdictsRight : Type 0 where
-  pub sound : verdict soundMeter ≡ record { holdable = true; isSound = true; tests = []; rules = [] }
+  pub sound : verdict soundMeter ≡ noFault
+  pub long : map verdict longMeters ≡ map (λ m. noFault) longMeters
   pub unsound :
       map (λ e. verdict (e .meter)) unsoundMeters
       ≡ map (λ e. record { holdable = true; isSound = false; tests = e .tests; rules = e .rules }) unsoundMeters

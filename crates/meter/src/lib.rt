@@ -1,7 +1,9 @@
 // The meter: its state, the test of soundness for every state that can be handed in, and the owner's calls. Each call takes
 // the meter whole and hands the changed meter back beside the number of its refusal, or 0; it refuses an unsound meter by 3,
 // then by its own number, and hands a refused meter back as it was. Beside the calls: the meter with zeros wherever it holds
-// nothing.
+// nothing; in `transfers`, what the line allows of a transfer.
+mod transfers;
+
 use body::BodyState;
 use line::LineState;
 use model::Clock;
@@ -9,6 +11,7 @@ use model::Name;
 use model::Register;
 use store::Columns;
 use store::Registers;
+pub use transfers::is_allowed;
 ghost use mathlib.Core.Path.{_≡_};
 ghost use Rattle.model.specs.Names.{blankName, blankRegister};
 ghost use Rattle.model.specs.State.{newMeter};
@@ -39,7 +42,11 @@ pub fn is_sound(meter: Meter) -> bool
         return false;
     }
     let l = meter.line;
-    line::is_line_sound(l)
+    if !line::is_line_sound(l) {
+        return false;
+    }
+    let t = b.transfer;
+    is_allowed(l, t)
 }
 
 impl Meter {
@@ -53,7 +60,7 @@ impl Meter {
         m.cleared()
     }
 
-    // Registers are given anew; columns and rows are emptied. Refusals 3 and 16.
+    // Registers are given anew; columns and rows are emptied, and a transfer that runs is ended. Refusals 3 and 16.
     pub fn give_registers(mut self, registers: [Register; 16], count: usize) -> Changed
         ensures { λ r. ⌜ Owned (OwnerCall.giveRegisters (held blankRegister count registers)) self r ⌝ }
     {
@@ -74,6 +81,9 @@ impl Meter {
         b.columns = columns;
         let rows = body::no_rows();
         b.rows = rows;
+        let t = b.transfer;
+        let ended = picks::broken(t);
+        b.transfer = ended;
         self.body = b;
         done(self)
     }
@@ -99,7 +109,7 @@ impl Meter {
         done(self)
     }
 
-    // Columns are set by the names of given registers; rows are emptied. Refusals 3 and 18.
+    // Columns are set by the names of given registers; rows are emptied, and a transfer that runs is ended. Refusals 3 and 18.
     pub fn set_columns(mut self, columns: [Name; 16], count: usize) -> Changed
         ensures { λ r. ⌜ Owned (OwnerCall.setColumns (held blankName count columns)) self r ⌝ }
     {
@@ -119,6 +129,9 @@ impl Meter {
         b.columns = these;
         let rows = body::no_rows();
         b.rows = rows;
+        let t = b.transfer;
+        let ended = picks::broken(t);
+        b.transfer = ended;
         self.body = b;
         done(self)
     }
@@ -171,7 +184,8 @@ impl Meter {
         done(self)
     }
 
-    // Power-up: links and associations end, of which nothing is left; counters, rows and record number are cleared. Refusal 3.
+    // Power-up: links and associations end, of which nothing is left; counters, rows and record number are cleared, and a transfer
+    // is forgotten. Refusal 3.
     pub fn power_up(mut self) -> Changed
         ensures { λ r. ⌜ PoweredUp self r ⌝ }
     {
@@ -185,13 +199,15 @@ impl Meter {
         let rows = body::no_rows();
         b.rows = rows;
         b.number = 0;
+        let transfer = picks::no_transfer();
+        b.transfer = transfer;
         self.line = line;
         self.body = b;
         done(self)
     }
 
-    // The meter with zeros wherever it holds nothing: in the places above a count, and in the fields of an association that has
-    // ended or is no longer pending. It is no call of the owner's: of any meter, sound or not, it holds the same.
+    // The meter with zeros wherever it holds nothing: in the places above a count, in the fields of an association that has ended or
+    // is no longer pending, and in those that a transfer does not use. It is no call of the owner's: of any meter, sound or not, it holds the same.
     pub fn cleared(self) -> Meter
         ensures { λ r. ⌜ Cleared self r ⌝ }
     {

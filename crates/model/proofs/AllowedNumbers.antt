@@ -11,9 +11,9 @@ use Rattle.model.specs.Limits.{longestSent, replyRoom}
 use Rattle.model.specs.Names.{every, given}
 use Rattle.model.specs.Clocks.{validClock}
 use Rattle.model.specs.Periods.{listed, permittedPeriod}
-use Rattle.model.specs.State.{Body, Model}
+use Rattle.model.specs.State.{Transfer, idle, running, ended, Body, Model}
 use Rattle.model.specs.Soundness.{acceptedRegisters, acceptedColumns, sound}
-use Rattle.model.specs.Objects.{meaning, Service, get, action, Request, Result, granted, denied, methodInvoked, attributeRead, answered, turned, refusalOf}
+use Rattle.model.specs.Objects.{meaning, Service, get, action, Inquiry, ask, goOn, Result, granted, begun, denied, methodInvoked, attributeRead, Turn, answered, continued, turned, refusalOf}
 use Rattle.model.specs.Calls.{refused, Lent, lentRefusal, Call, frame, owner, OwnerCall, ownRefusal, giveRegisters, setValue, setColumns, setPeriod, tick, setP5, powerUp, Outcome, Decision, answer, serve, Protocol, decided, act, early, step}
 use Rattle.model.specs.Archive.{frameNumbers, saidNumber, KnownNumbers, numbers, NumbersAllowed, keepingNumbers, RefusalsKeep}
 use Rattle.model.proofs.ListLaws.{both, by-test, every-anywhere}
@@ -71,12 +71,19 @@ own-allowed (setP5 f) m = refl
 own-allowed powerUp m = refl
 
 -- the body answers with number 0 or 13
-turned-number : (q : Request) (b : Body) → listed (turned q b .refusal) (0 ∷ 13 ∷ []) ≡ true
+turned-number : (q : Inquiry) (b : Body) → listed (turned q b .refusal) (0 ∷ 13 ∷ []) ≡ true
 unfolding turned
-turned-number q b = service (q .service)
+turned-number (goOn i n) b = go (b .transfer)
+  where
+    go : (t : Transfer) → listed (continued i n b t .refusal) (0 ∷ 13 ∷ []) ≡ true
+    go idle = refl
+    go (running x k) = by-test (λ (t : Turn). listed (t .refusal) (0 ∷ 13 ∷ []) ≡ true) (eqb n k) (λ _. refl) (λ _. refl)
+    go ended = refl
+turned-number (ask q) b = service (q .service)
   where
     result : (r : Result) → listed (refusalOf r) (0 ∷ 13 ∷ []) ≡ true
     result (granted d) = refl
+    result (begun t d) = refl
     result (denied c) = refl
 
     service : (v : Service) → listed (answered q b (meaning (q .client) (q .name) (b .store .registers)) v .refusal) (0 ∷ 13 ∷ []) ≡ true

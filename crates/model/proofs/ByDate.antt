@@ -1,10 +1,10 @@
 -- Rows by date: the statements of specs/ByDate, proved, but for the order of clocks (proofs/ClockOrder).
 use mathlib.Core.Path.{_≡_, refl, sym, ap, _∙_}
-use mathlib.Core.Bool.{Bool, true, false, cond, not, false≢true}
+use mathlib.Core.Bool.{Bool, true, false, cond, not, _&&_, false≢true}
 use mathlib.Core.List.{List, [], _∷_, _++_, flatMap}
 use Prim.Native.Nat.{ℕ, suc, _+_}
 use native.Mathlib.Omega.{arith}
-use lib.Dec.{eqb}
+use lib.Dec.{eqb, leb}
 use lib.ListN.{length, take, drop, length-append}
 use lib.Seq.{take-at, drop-append-add}
 use borrow.Author.Tests.{eqb-true}
@@ -12,12 +12,13 @@ use Rattle.wire.specs.Numbers.{lengthField}
 use Rattle.wire.specs.Reading.{sameBytes}
 use Rattle.wire.proofs.SameLaws.{same-self, same-equal}
 use Rattle.model.specs.declared.Clock.{Clock}
+use Rattle.model.specs.Limits.{longestSent, dataRoom}
 use Rattle.model.specs.Names.{every}
 use Rattle.model.specs.Clocks.{clockData, inRange}
-use Rattle.model.specs.Selecting.{selected, picking, dated, rangeSelector, noColumns, rangeDescriptor, isRangeDescriptor, fromClock, toClock, goodRange, describedRange, described}
-use Rattle.model.specs.State.{Entry, Body}
-use Rattle.model.specs.Objects.{rowsWithin, rowsData, attributeData, fitting, attributeRead, rows, turned}
-use Rattle.model.specs.ByDate.{RangesDescribed, NoOtherRange, Kept, done, taken, left, KeptWithin, profileRequest, readTurn, RangeReads, NoneInRange, AllInRange, BothKept, OtherShape, BadRange, OtherSelector, NotAgreed}
+use Rattle.model.specs.Selecting.{all, selected, Picking, whole, dated, picking, rangeSelector, noColumns, rangeDescriptor, isRangeDescriptor, fromClock, toClock, goodRange, describedRange, described}
+use Rattle.model.specs.State.{Entry, profile, running, Body}
+use Rattle.model.specs.Objects.{ask, granted, begun, denied, rowsWithin, rowsData, attributeData, fitting, attributeRead, turned}
+use Rattle.model.specs.ByDate.{RangesDescribed, NoOtherRange, Kept, done, taken, left, KeptWithin, profileRequest, readTurn, rowsResult, RangeReads, NoneInRange, SameAnswer, AllInRange, BothKept, OtherShape, BadRange, OtherSelector, NotAgreed}
 use Rattle.model.proofs.LimitFacts.{data-room}
 use Rattle.model.proofs.ListLaws.{both}
 
@@ -84,14 +85,14 @@ unfolding described describedRange
 range-described from to f t g =
     let d = ranges-described from to f t in rw (d .is, d .first, d .last, g)
 
-pub range-turned : (i : ℕ) (from to : Clock) (b : Body) → length (from .bytes) ≡ 12 → length (to .bytes) ≡ 12 → goodRange from to ≡ true
-    → turned (profileRequest i (selected rangeSelector (rangeDescriptor from to))) b ≡ readTurn i (rowsWithin from to (b .store .rows)) b
+pub range-turned : (blocks : Bool) (i : ℕ) (from to : Clock) (b : Body) → length (from .bytes) ≡ 12 → length (to .bytes) ≡ 12 → goodRange from to ≡ true
+    → turned (ask (profileRequest blocks i (selected rangeSelector (rangeDescriptor from to)))) b ≡ readTurn i (rowsResult blocks (dated from to) (rowsWithin from to (b .store .rows))) b
 unfolding turned attributeRead attributeData sameBytes
-range-turned i from to b f t g = rw (range-described from to f t g)
+range-turned blocks i from to b f t g = rw (range-described from to f t g)
 
 pub range-reads : RangeReads
-range-reads i from to b f t g =
-    record { rows = rowsWithin from to (b .store .rows); kept = rows-kept from to (b .store .rows); answer = range-turned i from to b f t g }
+range-reads blocks i from to b f t g =
+    record { rows = rowsWithin from to (b .store .rows); kept = rows-kept from to (b .store .rows); answer = range-turned blocks i from to b f t g }
 
 none-within : (from to : Clock) (n : ℕ) (rs : List Entry) → every (λ n r. not (inRange from to (r .clock))) n rs ≡ true → rowsWithin from to rs ≡ []
 none-within from to n [] e = refl
@@ -108,15 +109,32 @@ all-within from to n (r ∷ rs) e = let h = both (inRange from to (r .clock)) _ 
 
 pub none-in-range : NoneInRange
 unfolding rowsData lengthField flatMap fitting
-none-in-range i from to b f t g e =
-    range-turned i from to b f t g
-    ∙ ap (λ (rs : List Entry). readTurn i rs b) (none-within from to 0 (b .store .rows) e)
+none-in-range blocks i from to b f t g e =
+    range-turned blocks i from to b f t g
+    ∙ ap (λ (rs : List Entry). readTurn i (rowsResult blocks (dated from to) rs) b) (none-within from to 0 (b .store .rows) e)
     ∙ rw (data-room)
 
-pub all-in-range : AllInRange
+-- a read of all rows
+pub whole-turned : (blocks : Bool) (i : ℕ) (b : Body) → turned (ask (profileRequest blocks i all)) b ≡ readTurn i (rowsResult blocks whole (b .store .rows)) b
 unfolding turned attributeRead attributeData sameBytes described
-all-in-range i from to b f t g e =
-    range-turned i from to b f t g ∙ ap (λ (rs : List Entry). readTurn i rs b) (all-within from to 0 (b .store .rows) e)
+whole-turned blocks i b = refl
+
+-- the transfer that would begin has no part in an answer
+same-rows : (blocks : Bool) (i : ℕ) (p q : Picking) (rs : List Entry) (b : Body) → SameAnswer (readTurn i (rowsResult blocks p rs) b) (readTurn i (rowsResult blocks q rs) b)
+unfolding fitting
+same-rows blocks i p q rs b = go (leb (length (rowsData rs)) (dataRoom longestSent)) (blocks && true)
+  where
+    go : (x y : Bool)
+        → SameAnswer (readTurn i (cond x (granted (rowsData rs)) (cond y (begun (running (profile p) 1) (rowsData rs)) (denied 250))) b)
+        (readTurn i (cond x (granted (rowsData rs)) (cond y (begun (running (profile q) 1) (rowsData rs)) (denied 250))) b)
+    go true y = record { refusal = refl; bytes = refl }
+    go false true = record { refusal = refl; bytes = refl }
+    go false false = record { refusal = refl; bytes = refl }
+
+pub all-in-range : AllInRange
+all-in-range blocks i from to b f t g e =
+    rw (range-turned blocks i from to b f t g, all-within from to 0 (b .store .rows) e, whole-turned blocks i b)
+    (same-rows blocks i (dated from to) whole (b .store .rows) b)
 
 -- Two rows.
 
@@ -146,16 +164,16 @@ both-kept from to r s rs ks k t h j =
 
 pub other-shape : OtherShape
 unfolding turned attributeRead described sameBytes
-other-shape i v b e = rw e
+other-shape blocks i v b e = rw e
 
 pub bad-range : BadRange
 unfolding turned attributeRead described describedRange sameBytes
-bad-range i v b e g = rw (e, g)
+bad-range blocks i v b e g = rw (e, g)
 
 pub other-selector : OtherSelector
 unfolding turned attributeRead described sameBytes
-other-selector i k v b e g = rw (e, g)
+other-selector blocks i k v b e g = rw (e, g)
 
 pub not-agreed : NotAgreed
 unfolding turned attributeRead described sameBytes
-not-agreed i k v b = refl
+not-agreed blocks i k v b = refl

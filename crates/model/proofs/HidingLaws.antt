@@ -1,9 +1,9 @@
 -- Hiding the chosen values commutes with every operation on the store, and no test and no length sees a value.
 use mathlib.Core.Path.{_≡_, refl, sym, _∙_, ap, ap₂}
-use mathlib.Core.Bool.{Bool, true, false}
+use mathlib.Core.Bool.{Bool, true, false, cond, _&&_}
 use mathlib.Core.List.{List, [], _∷_, _++_, map, flatMap}
-use Prim.Native.Nat.{ℕ, suc, _+_}
-use lib.ListN.{length, getD, set, take, length-map, List·getD-map}
+use Prim.Native.Nat.{ℕ, suc, _+_, _-_}
+use lib.ListN.{length, getD, set, take, drop, length-map, List·getD-map}
 use lib.Dec.{eqb, leb}
 use Rattle.wire.specs.Numbers.{lengthField}
 use Rattle.wire.proofs.NumberLaws.{length-high}
@@ -12,16 +12,16 @@ use Rattle.model.specs.declared.Register.{Register}
 use Rattle.model.specs.declared.Clock.{Clock}
 use Rattle.model.specs.Limits.{maxRows}
 use Rattle.model.specs.Names.{seat, place, given, bearing, blankRegister, withValue, assigned, nameOf}
-use Rattle.model.specs.Clocks.{validClock}
-use Rattle.model.specs.State.{Entry, Store, Body, Model, withCells}
+use Rattle.model.specs.Clocks.{clockData, validClock, inRange}
+use Rattle.model.specs.Selecting.{Picking, whole, numbered, dated}
+use Rattle.model.specs.State.{Entry, Store, Long, profile, Transfer, idle, running, ended, Body, Model, withCells}
 use Rattle.model.specs.declared.SoundnessTest.{SoundnessTest}
-use Rattle.model.specs.declared.SoundnessTest.the-variants.{RegisterList, ColumnList, PeriodPermitted, ClockValid, RowClocksValid, RowCount, RowCells, AssociationKind, AssociationOnLink, AgreedServices}
-use Rattle.model.specs.Soundness.{passes, acceptedRegisters, acceptedColumns, soundnessTests, sound}
-use Rattle.model.specs.Clocks.{clockData}
-use Rattle.model.specs.Objects.{unsigned16, unsigned32, rowData, rowsData}
+use Rattle.model.specs.declared.SoundnessTest.the-variants.{RegisterList, ColumnList, PeriodPermitted, ClockValid, RowClocksValid, RowCount, RowCells, AssociationKind, AssociationOnLink, AgreedServices, TransferPossible}
+use Rattle.model.specs.Soundness.{passes, acceptedRegisters, acceptedColumns, allowed, areRows, goodPicking, couldGrant, goesOn, soundnessTests, sound}
+use Rattle.model.specs.Objects.{unsigned16, unsigned32, rowData, rowsData, Picked, these, wrong, entriesWrong, lastEntry, rowsBetween, entries, rowsWithin, picked, pickedRows, longData}
 use Rattle.model.specs.Calls.{cellsNow, rowNow}
 use Rattle.model.specs.Demand3.{Chosen, hide, hideRegister, hideCells, hideEntry, hideStore, hideBody, hidden, anyChosen}
-use Rattle.model.proofs.ListLaws.{neither, every-same, length-both, map-take, map-set, every-map, length-flat-map}
+use Rattle.model.proofs.ListLaws.{neither, every-same, length-both, map-take, map-drop, map-set, every-map, length-flat-map}
 use Rattle.model.proofs.NameLaws.{given-bears, not-given}
 
 pub hide-hide : (b : Bool) (v : ℕ) → hide b (hide b v) ≡ hide b v
@@ -157,6 +157,75 @@ module _ (ch : Chosen) where
       (ap (λ (k : ℕ). length (0x01 ∷ lengthField k)) (length-map rs (hideEntry ch cs)))
       (length-flat-map rowData (hideEntry ch cs) (length-row cs) rs)
 
+  -- the rows that are picked, hidden before or after
+
+  abbrev pub hidePicked : List Name → Picked → Picked
+  hidePicked cs (these rs) = these (map (hideEntry ch cs) rs)
+  hidePicked cs (wrong c) = wrong c
+
+  picked-if : (cs : List Name) (b : Bool) (x y x′ y′ : Picked) → x′ ≡ hidePicked cs x → y′ ≡ hidePicked cs y → cond b x′ y′ ≡ hidePicked cs (cond b x y)
+  picked-if cs true x y x′ y′ p q = p
+  picked-if cs false x y x′ y′ p q = q
+
+  entries-hidden : (cs : List Name) (from to : ℕ) (rs : List Entry) → entries from to (map (hideEntry ch cs) rs) ≡ hidePicked cs (entries from to rs)
+  unfolding entries
+  entries-hidden cs from to rs =
+      rw (length-map rs (hideEntry ch cs))
+      (picked-if cs (entriesWrong from to (length rs)) (wrong 13) (these (rowsBetween from last rs)) (wrong 13)
+      (these (rowsBetween from last (map (hideEntry ch cs) rs))) refl
+      (ap these (ap (take (last - (from - 1))) (sym (map-drop (hideEntry ch cs) (from - 1) rs)) ∙ sym (map-take (hideEntry ch cs) (last - (from - 1)) (drop (from - 1) rs)))))
+    where
+      last : ℕ
+      last = lastEntry to (length rs)
+
+  within-hidden : (cs : List Name) (from to : Clock) (rs : List Entry) → rowsWithin from to (map (hideEntry ch cs) rs) ≡ map (hideEntry ch cs) (rowsWithin from to rs)
+  within-hidden cs from to [] = refl
+  within-hidden cs from to (r ∷ rs) = go (inRange from to (r .clock)) (within-hidden cs from to rs)
+    where
+      go : (b : Bool) → rowsWithin from to (map (hideEntry ch cs) rs) ≡ map (hideEntry ch cs) (rowsWithin from to rs)
+          → cond b (hideEntry ch cs r ∷ rowsWithin from to (map (hideEntry ch cs) rs)) (rowsWithin from to (map (hideEntry ch cs) rs))
+          ≡ map (hideEntry ch cs) (cond b (r ∷ rowsWithin from to rs) (rowsWithin from to rs))
+      go true ih = ap (_∷_ (hideEntry ch cs r)) ih
+      go false ih = ih
+
+  pub picked-hidden : (cs : List Name) (p : Picking) (rs : List Entry) → picked p (map (hideEntry ch cs) rs) ≡ hidePicked cs (picked p rs)
+  picked-hidden cs whole rs = refl
+  picked-hidden cs (numbered from to) rs = entries-hidden cs from to rs
+  picked-hidden cs (dated from to) rs = ap these (within-hidden cs from to rs)
+
+  rows-picked : (cs : List Name) (w : Picked) → pickedRows (hidePicked cs w) ≡ map (hideEntry ch cs) (pickedRows w)
+  rows-picked cs (these rs) = refl
+  rows-picked cs (wrong c) = refl
+
+  -- the data of a long read: equally long, and the same where no column is chosen
+
+  long-hidden : (p : Picking) (s : Store) → longData (profile p) (hideStore ch s) ≡ rowsData (map (hideEntry ch (s .columns)) (pickedRows (picked p (s .rows))))
+  long-hidden p s =
+      ap (λ (w : Picked). rowsData (pickedRows w)) (picked-hidden (s .columns) p (s .rows))
+      ∙ ap rowsData (rows-picked (s .columns) (picked p (s .rows)))
+
+  pub long-length : (x : Long) (s : Store) → length (longData x (hideStore ch s)) ≡ length (longData x s)
+  long-length (profile p) s = ap length (long-hidden p s) ∙ length-rows (s .columns) (pickedRows (picked p (s .rows)))
+
+  pub long-kept : (x : Long) (s : Store) → anyChosen ch (s .columns) ≡ false → longData x (hideStore ch s) ≡ longData x s
+  long-kept (profile p) s e = long-hidden p s ∙ ap rowsData (rows-kept (s .columns) (pickedRows (picked p (s .rows))) e)
+
+  -- whether more blocks come
+
+  are-rows : (cs : List Name) (w : Picked) → areRows (hidePicked cs w) ≡ areRows w
+  are-rows cs (these rs) = refl
+  are-rows cs (wrong c) = refl
+
+  could-grant : (x : Long) (s : Store) → couldGrant x (hideStore ch s) ≡ couldGrant x s
+  could-grant (profile p) s =
+      ap (_&&_ (goodPicking p)) (ap areRows (picked-hidden (s .columns) p (s .rows)) ∙ are-rows (s .columns) (picked p (s .rows)))
+
+  goes-on-hidden : (s : Store) (t : Transfer) → goesOn (hideStore ch s) t ≡ goesOn s t
+  unfolding goesOn
+  goes-on-hidden s idle = refl
+  goes-on-hidden s (running x k) = rw (could-grant x s, long-length x s)
+  goes-on-hidden s ended = refl
+
   -- soundness sees no value
 
   pub accepted-hidden : (rs : List Register) → acceptedRegisters (map (hideRegister ch) rs) ≡ acceptedRegisters rs
@@ -180,6 +249,7 @@ module _ (ch : Chosen) where
   passes-hidden AssociationKind m = refl
   passes-hidden AssociationOnLink m = refl
   passes-hidden AgreedServices m = refl
+  passes-hidden TransferPossible m = ap (_&&_ (allowed (m .line) (m .body .transfer))) (goes-on-hidden (m .body .store) (m .body .transfer))
 
   pub sound-hidden : (m : Model) → sound (hidden ch m) ≡ sound m
   unfolding sound

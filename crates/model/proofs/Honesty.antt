@@ -1,6 +1,6 @@
 -- The statements of specs/Honesty, proved.
 use mathlib.Core.Path.{_≡_, refl, sym, _∙_, ap, ap₂}
-use mathlib.Core.Bool.{Bool, true, false, cond, _&&_, false≢true}
+use mathlib.Core.Bool.{Bool, true, false, cond, _&&_, false≢true, and-false}
 use mathlib.Core.Logic.{_⊎_, inl, inr}
 use mathlib.Core.List.{List, [], _∷_, map, nil≢cons, cons≢nil, head-eq-of-cons-eq, tail-eq-of-cons-eq}
 use Prim.Native.Nat.{ℕ, suc, _+_}
@@ -11,11 +11,11 @@ use borrow.Author.Tests.{eqb-true}
 use Rattle.model.specs.declared.Name.{Name}
 use Rattle.model.specs.declared.Register.{Register}
 use Rattle.model.specs.Names.{sameName, given, withValue, blankRegister}
-use Rattle.model.specs.State.{Line, Entry, Store, Model, withBody, withStore, withCells}
-use Rattle.model.specs.Objects.{profileNamed, Service, get, action, Request}
-use Rattle.model.specs.Calls.{Lent, Call, frame, owner, OwnerCall, giveRegisters, setValue, setColumns, setPeriod, tick, setP5, powerUp, Wrap, Decision, answer, serve, Protocol, KeepsLengths, trace}
-use Rattle.model.specs.Demand3.{Chosen, hide, hideRegister, hideCells, hideEntry, hidden, hiddenOwner, hiddenCall, anyChosen, asksChosen, decidesRead, reads}
-use Rattle.model.specs.Honesty.{replaceRegisters, replaceCells, replaceRows, ReplacedAlike, valueAt, cellAt, blankEntry, AlikeReplaced, replacedOwner, ReplacedCallAlike, nothing, NothingChosen, UnchosenProfile, ChosenRead, ReadsAreChosen}
+use Rattle.model.specs.State.{Line, Entry, Store, runs, Model, withBody, withStore, withCells}
+use Rattle.model.specs.Objects.{profileNamed, Service, get, action, Request, ask, goOn}
+use Rattle.model.specs.Calls.{Lent, Call, frame, owner, OwnerCall, giveRegisters, setValue, setColumns, setPeriod, tick, setP5, powerUp, Wrap, Decision, answer, serve, Protocol, KeepsLengths, step, trace}
+use Rattle.model.specs.Demand3.{Chosen, hide, hideRegister, hideCells, hideEntry, hidden, hiddenOwner, hiddenCall, Alike, anyChosen, asksChosen, decidesRead}
+use Rattle.model.specs.Honesty.{replaceRegisters, replaceCells, replaceRows, ReplacedAlike, valueAt, cellAt, blankEntry, AlikeReplaced, replacedOwner, ReplacedCallAlike, nothing, NothingChosen, UnchosenProfile, UnchosenBlocks, ChosenRead, ChosenBlock, ReadsAreChosen}
 use Rattle.model.proofs.ListLaws.{both}
 use Rattle.model.proofs.HidingLaws.{rows-kept}
 use Rattle.model.proofs.Noninterference.{same-call}
@@ -138,6 +138,7 @@ alike-replaced ch m₁ m₂ e =
         clock = ap (λ (m : Model). m .body .clock) (sym e) i;
         period = ap (λ (m : Model). m .body .period) (sym e) i;
         number = ap (λ (m : Model). m .body .number) (sym e) i;
+        transfer = ap (λ (m : Model). m .body .transfer) (sym e) i;
         store = record { registers = rs i; columns = sym c i; rows = es i };
       };
     }
@@ -181,25 +182,29 @@ nothing-chosen p m₁ m₂ cs₁ cs₂ l e =
 
 -- An unchosen profile.
 
+module _ (p : Protocol) (keeps : KeepsLengths p) (ch : Chosen) (m₁ m₂ : Model) (a : Lent) (alike : Alike ch m₁ m₂) where
+  -- a frame that comes to no read
+  unread-same : (d : Decision) → (p .decide) (m₁ .line) a ≡ d → decidesRead ch d (m₁ .body) ≡ false → step p (frame a) m₁ .sent ≡ step p (frame a) m₂ .sent
+  unread-same d e f =
+      same-call p keeps ch (frame a) (frame a) m₁ m₂ refl alike .sent
+      (λ g. false≢true (sym f ∙ ap (λ (x : Decision). decidesRead ch x (m₁ .body)) (sym e) ∙ g .0))
+
 profile-unread : (ch : Chosen) (n : Name) (v : Service) (s : Store) → sameName profileNamed n ≡ true → anyChosen ch (s .columns) ≡ false → asksChosen ch n v s ≡ false
-profile-unread ch n (get a k) s h e = rw (h, e) (go (eqb a 2))
-  where
-    go : (b : Bool) → b && false ≡ false
-    go true = refl
-    go false = refl
+profile-unread ch n (get a k) s h e = rw (h, e) (and-false (eqb a 2))
 profile-unread ch n (action k v) s h e = refl
 
 pub unchosen-profile : (p : Protocol) → KeepsLengths p → UnchosenProfile p
 unchosen-profile p keeps ch m₁ m₂ a q w l alike d h e =
-    same-call p keeps ch (frame a) (frame a) m₁ m₂ refl alike .sent (λ g. false≢true (sym unread ∙ g .0))
-  where
-    unread : reads p ch (frame a) m₁ ≡ false
-    unread = ap (λ (x : Decision). decidesRead ch x (m₁ .body .store)) d ∙ profile-unread ch (q .name) (q .service) (m₁ .body .store) h e
+    unread-same p keeps ch m₁ m₂ a alike (serve (ask q) w l) d (profile-unread ch (q .name) (q .service) (m₁ .body .store) h e)
+
+pub unchosen-blocks : (p : Protocol) → KeepsLengths p → UnchosenBlocks p
+unchosen-blocks p keeps ch m₁ m₂ a i n w l alike d e =
+    unread-same p keeps ch m₁ m₂ a alike (serve (goOn i n) w l) d (rw e (and-false (runs (m₁ .body .transfer))))
 
 -- What counts as a read.
 
 asked-read : (p : Protocol) (ch : Chosen) (a : Lent) (m : Model) (q : Request) (w : Wrap) (l : Line) (v : Service)
-    → (p .decide) (m .line) a ≡ serve q w l → q .service ≡ v → asksChosen ch (q .name) v (m .body .store) ≡ true → ChosenRead p ch (frame a) m
+    → (p .decide) (m .line) a ≡ serve (ask q) w l → q .service ≡ v → asksChosen ch (q .name) v (m .body .store) ≡ true → ChosenRead p ch (frame a) m
 asked-read p ch a m q w l (action k v) d e h = absurd (false≢true h)
 asked-read p ch a m q w l (get k s) d e h =
     let g = both (eqb k 2) _ h in
@@ -225,7 +230,10 @@ asked-read p ch a m q w l (get k s) d e h =
 pub reads-are-chosen : (p : Protocol) → ReadsAreChosen p
 reads-are-chosen p ch (frame a) m h = go ((p .decide) (m .line) a) refl h
   where
-    go : (d : Decision) → (p .decide) (m .line) a ≡ d → decidesRead ch d (m .body .store) ≡ true → ChosenRead p ch (frame a) m
+    go : (d : Decision) → (p .decide) (m .line) a ≡ d → decidesRead ch d (m .body) ≡ true → ChosenRead p ch (frame a) m ⊎ ChosenBlock p ch (frame a) m
     go (answer s) e x = absurd (false≢true x)
-    go (serve q w l) e x = asked-read p ch a m q w l (q .service) e refl x
+    go (serve (ask q) w l) e x = inl (asked-read p ch a m q w l (q .service) e refl x)
+    go (serve (goOn i n) w l) e x =
+        let g = both (runs (m .body .transfer)) (anyChosen ch (m .body .store .columns)) x in
+        inr (record { lent = a; invoke = i; number = n; wrap = w; line = l; call = refl; decided = e; running = g .0; asked = g .1 })
 reads-are-chosen p ch (owner o) m h = absurd (false≢true h)

@@ -15,11 +15,11 @@ use Rattle.model.specs.Names.{sameName}
 use Rattle.model.specs.Periods.{captureDue}
 use Rattle.model.specs.State.{Line, Body, Model, withBody, withClock}
 use Rattle.model.specs.Soundness.{sound}
-use Rattle.model.specs.Objects.{Content, simple, rows, recordNumber, register, Meaning, known, unknown, meaning, Service, get, action, Request, Result, granted, denied, refusalOf, methodInvoked, afterMethod, afterAction, answered, turned, profileNamed}
-use Rattle.model.specs.Calls.{Lent, Call, frame, owner, OwnerCall, ownRefusal, obeyed, giveRegisters, setValue, setColumns, setPeriod, tick, setP5, powerUp, Outcome, done, Wrap, Decision, answer, serve, Protocol, decided, rowNow, captured, ticked, act, early, step}
-use Rattle.model.specs.Archive.{OneMore, DueTicks, onProfile, empties, mayEmpty, RowsAfter, stay, grow, empty, RowsStay}
+use Rattle.model.specs.Objects.{Content, simple, rows, recordNumber, register, Meaning, known, unknown, meaning, Service, get, action, Request, ask, goOn, Result, granted, begun, denied, refusalOf, methodInvoked, afterMethod, afterAction, answered, turned, profileNamed}
+use Rattle.model.specs.Calls.{Lent, Call, frame, owner, OwnerCall, ownRefusal, obeyed, giveRegisters, setValue, setColumns, setPeriod, tick, setP5, powerUp, Outcome, done, Wrap, Decision, answer, serve, Protocol, decided, settles, rowNow, captured, ticked, act, early, step}
+use Rattle.model.specs.Archive.{rowsOf, OneMore, DueTicks, onProfile, empties, mayEmpty, RowsAfter, stay, grow, empty, RowsStay}
 use Rattle.model.proofs.ListLaws.{by-test}
-use Rattle.model.proofs.ObjectLaws.{Acts, ActsBy, action-acts}
+use Rattle.model.proofs.ObjectLaws.{Acts, ActsBy, action-acts, read-moves, block-moves}
 
 -- of k at most, the first stands in front of all but the last of the others
 take-front : {A : Type 0} (k : ℕ) (x : A) (xs : List A) → 0 < k → take k (x ∷ xs) ≡ x ∷ take (k - 1) xs
@@ -50,22 +50,23 @@ due-ticks p m t s v d = rw (s, v) (ticked-more t (m .body) d)
 module _ (p : Protocol) (m : Model) where
   -- the rows after an ACTION that was granted: as they were, or none, where it is method 1 of the profile
   method-rows : (c : Call) (o : Outcome) (x : Content) (n : Name) (j : ℕ) → Acts x n j → (sameName profileNamed n && eqb j 1 ≡ true → mayEmpty p c (m .line) ≡ true)
-      → o .refusal ≡ 0 → o .next .body ≡ afterMethod x (m .body) → RowsAfter p c m o
-  method-rows c o (simple y) n j t k z e = stay (ap (λ (b : Body). b .store .rows) e)
-  method-rows c o rows n j t k z e = empty (k t) z (ap (λ (b : Body). b .store .rows) e)
-  method-rows c o recordNumber n j t k z e = stay (ap (λ (b : Body). b .store .rows) e)
-  method-rows c o (register r) n j t k z e = stay (ap (λ (b : Body). b .store .rows) e)
+      → o .refusal ≡ 0 → rowsOf (o .next) ≡ afterMethod x (m .body) .store .rows → RowsAfter p c m o
+  method-rows c o (simple y) n j t k z e = stay e
+  method-rows c o rows n j t k z e = empty (k t) z e
+  method-rows c o recordNumber n j t k z e = stay e
+  method-rows c o (register r) n j t k z e = stay e
 
   action-rows : (c : Call) (o : Outcome) (w : Meaning) (r : Result) (n : Name) (j : ℕ) → ActsBy w r n j → (sameName profileNamed n && eqb j 1 ≡ true → mayEmpty p c (m .line) ≡ true)
-      → o .refusal ≡ refusalOf r → o .next .body ≡ afterAction w (m .body) r → RowsAfter p c m o
-  action-rows c o unknown r n j t k z e = stay (ap (λ (b : Body). b .store .rows) e)
+      → o .refusal ≡ refusalOf r → rowsOf (o .next) ≡ afterAction w (m .body) r .store .rows → RowsAfter p c m o
+  action-rows c o unknown r n j t k z e = stay e
   action-rows c o (known x) (granted d) n j t k z e = method-rows c o (x .content) n j t k z e
-  action-rows c o (known x) (denied d) n j t k z e = stay (ap (λ (b : Body). b .store .rows) e)
+  action-rows c o (known x) (begun u d) n j t k z e = stay e
+  action-rows c o (known x) (denied d) n j t k z e = stay e
 
-  served-rows : (a : Lent) (q : Request) (v : Service) (w : Wrap) (l : Line) (o : Outcome) → (p .decide) (m .line) a ≡ serve q w l → q .service ≡ v
+  served-rows : (a : Lent) (q : Request) (v : Service) (w : Wrap) (l : Line) (o : Outcome) → (p .decide) (m .line) a ≡ serve (ask q) w l → q .service ≡ v
       → o .refusal ≡ answered q (m .body) (meaning (q .client) (q .name) (m .body .store .registers)) v .refusal
-      → o .next .body ≡ answered q (m .body) (meaning (q .client) (q .name) (m .body .store .registers)) v .body → RowsAfter p (frame a) m o
-  served-rows a q (get k s) w l o d e z f = stay (ap (λ (b : Body). b .store .rows) f)
+      → rowsOf (o .next) ≡ answered q (m .body) (meaning (q .client) (q .name) (m .body .store .registers)) v .body .store .rows → RowsAfter p (frame a) m o
+  served-rows a q (get k s) w l o d e z f = stay (f ∙ ap (λ (b : Body). b .store .rows) (read-moves (q .client) _ (m .body)))
   served-rows a q (action k v) w l o d e z f =
       action-rows (frame a) o (meaning (q .client) (q .name) (m .body .store .registers)) (methodInvoked q k v (meaning (q .client) (q .name) (m .body .store .registers)))
       (q .name) k (action-acts q k v (m .body .store .registers))
@@ -89,9 +90,10 @@ module _ (p : Protocol) (m : Model) where
   unfolding act turned
   act-rows (frame a) = go ((p .decide) (m .line) a) refl
     where
-      go : (d : Decision) → (p .decide) (m .line) a ≡ d → RowsAfter p (frame a) m (decided p d m)
+      go : (d : Decision) → (p .decide) (m .line) a ≡ d → RowsAfter p (frame a) m (settles (decided p d m))
       go (answer s) e = stay refl
-      go (serve q w l) e = served-rows a q (q .service) w l (decided p (serve q w l) m) e refl refl refl
+      go (serve (ask q) w l) e = served-rows a q (q .service) w l (settles (decided p (serve (ask q) w l) m)) e refl refl refl
+      go (serve (goOn i n) w l) e = stay (ap (λ (b : Body). b .store .rows) (block-moves i n (m .body) (m .body .transfer)))
   act-rows (owner o) = by-test (RowsAfter p (owner o) m) (eqb (ownRefusal o m) 0) (λ _. owner-rows o) (λ _. stay refl)
 
 pub rows-stay : (p : Protocol) → RowsStay p

@@ -4,6 +4,8 @@ pub mod PeriodRule
 pub mod ListLaws
 pub mod NameLaws
 pub mod ObjectLaws
+pub mod BlockLaws
+pub mod TransferLaws
 pub mod SoundnessLaws
 pub mod HidingLaws
 pub mod AnswerLaws
@@ -12,8 +14,10 @@ pub mod Honesty
 pub mod KeptRows
 pub mod RecordNumber
 pub mod StaySound
+pub mod Transfers
 pub mod AllowedNumbers
 pub mod ByDate
+pub mod Joined
 pub mod MomentLaws
 pub mod ClockOrder
 pub mod ClientLaws

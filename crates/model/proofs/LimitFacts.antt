@@ -2,8 +2,8 @@
 use mathlib.Core.Path.{_≡_, refl}
 use mathlib.Core.List.{flatMap}
 use Rattle.wire.specs.Numbers.{lengthField}
-use Rattle.model.specs.Objects.{rowData, rowsData, fitting}
-use Rattle.model.specs.Limits.{maxRows, longestSent, longestReceived, replyRoom, apduRoom, envelopeLength, greatestText, textRoom, dataRoom, leastSize, greatestLength, greatestApdu, toldSize}
+use Rattle.model.specs.Objects.{rowData, rowsData, fitting, block, isLast}
+use Rattle.model.specs.Limits.{maxRows, longestSent, longestReceived, replyRoom, apduRoom, envelopeLength, greatestText, textRoom, dataRoom, blockLength, greatestBlock, blockRoom, leastSize, greatestLength, greatestApdu, toldSize}
 use Rattle.model.specs.Lengths.{NamedLengths}
 
 pub reply-room : replyRoom longestSent ≡ 779
@@ -22,6 +22,10 @@ pub data-room : dataRoom longestSent ≡ 740
 unfolding dataRoom textRoom apduRoom longestSent greatestText envelopeLength lengthField
 data-room = refl
 
+pub block-room : blockRoom longestSent ≡ 732
+unfolding blockRoom greatestBlock blockLength textRoom apduRoom longestSent greatestText envelopeLength lengthField
+block-room = refl
+
 pub least-size : leastSize longestSent ≡ 768
 unfolding leastSize longestSent
 least-size = refl
@@ -35,7 +39,7 @@ unfolding toldSize longestReceived
 told-size = refl
 
 pub named-lengths : NamedLengths
-unfolding greatestApdu longestReceived fitting dataRoom textRoom apduRoom longestSent greatestText envelopeLength maxRows rowsData rowData flatMap lengthField
+unfolding greatestApdu longestReceived fitting dataRoom textRoom apduRoom longestSent greatestText envelopeLength blockRoom greatestBlock blockLength block isLast maxRows rowsData rowData flatMap lengthField
 named-lengths =
     record {
       reply = reply-room;
@@ -48,4 +52,10 @@ named-lengths =
       six = refl;
       seven = refl;
       long = refl;
+      full = block-room;
+      begins = refl;
+      sixteen = refl;
+      third = refl;
+      last = refl;
+      second = refl;
     }

@@ -13,11 +13,11 @@ use Rattle.model.specs.declared.Clock.{Clock}
 use Rattle.model.specs.declared.Register.{Register}
 use Rattle.model.specs.Limits.{maxRows}
 use Rattle.model.specs.Names.{given}
-use Rattle.model.specs.State.{Entry, Body, Model, withLine, withBody, withStore, withClock, withPeriod, withNumber, keeping, withP5}
+use Rattle.model.specs.State.{Entry, idle, Body, Model, withLine, withBody, withStore, withClock, withPeriod, withNumber, withTransfer, withOtherRows, keeping, withP5}
 use Rattle.model.specs.Periods.{captureDue}
 use Rattle.model.specs.Soundness.{sound}
-use Rattle.model.specs.Objects.{rows, Service, get, action}
-use Rattle.model.specs.Calls.{Call, frame, owner, OwnerCall, ownRefusal, obeyed, giveRegisters, setValue, setColumns, setPeriod, tick, setP5, powerUp, Outcome, done, refused, Decision, answer, serve, Protocol, KeepsLengths, decided, captured, ticked, rowNow, nextNumber, withGiven, withAssigned, withColumns, poweredLine, act, early, step, trace}
+use Rattle.model.specs.Objects.{Service, get, action, ask, goOn}
+use Rattle.model.specs.Calls.{Call, frame, owner, OwnerCall, ownRefusal, obeyed, giveRegisters, setValue, setColumns, setPeriod, tick, setP5, powerUp, Outcome, done, refused, Decision, answer, serve, Protocol, KeepsLengths, decided, settled, settles, captured, ticked, rowNow, nextNumber, withGiven, withAssigned, withColumns, poweredLine, act, early, step, trace}
 use Rattle.model.specs.Demand3.{Chosen, hide, hideRegister, hideBody, hidden, hiddenOwner, hiddenCall, Alike, AlikeCalls, asksChosen, decidesRead, reads, SameOutcome, SameOutcomes, noneSame, moreSame, TraceDemand3, Handed, Gave, seen, noneRun, moreRun, RunIsTrace, Demand3}
 use Rattle.model.proofs.ListLaws.{passed}
 use Rattle.model.proofs.HidingLaws.{registers-twice, sound-hidden, given-hidden, assigned-hidden, accepted-hidden, columns-hidden, row-hidden, rows-pushed, rows-twice}
@@ -46,7 +46,7 @@ module _ (p : Protocol) (keeps : KeepsLengths p) (ch : Chosen) where
   hidden-twice : (m : Model) → hidden ch m ≡ hidden ch (hidden ch m)
   hidden-twice m = ap (λ (b : Body). withBody b m) (body-twice ch (m .body))
 
-  decided-close : (d : Decision) (m : Model) → Close (decidesRead ch d (m .body .store)) (decided p d m) (decided p d (hidden ch m))
+  decided-close : (d : Decision) (m : Model) → Close (decidesRead ch d (m .body)) (decided p d m) (decided p d (hidden ch m))
   decided-close (answer s) m = record { refusal = refl; size = refl; sent = λ _. refl; next = hidden-twice (withLine (s .line) m) }
   decided-close (serve q w l) m =
       let h = turned-close ch q (m .body) in
@@ -57,9 +57,13 @@ module _ (p : Protocol) (keeps : KeepsLengths p) (ch : Chosen) where
         next = ap (λ (b : Body). record { line = l; body = b }) (h .body);
       }
 
+  -- which transfer is kept is no matter of values
+  settles-close : {may : Bool} (o q : Outcome) → Close may o q → Close may (settles o) (settles q)
+  settles-close o q h = record { refusal = h .refusal; size = h .size; sent = h .sent; next = ap settled (h .next) }
+
   registers-close : (rs : List Register) (b : Body) → hideBody ch (withGiven rs b) ≡ hideBody ch (withGiven (map (hideRegister ch) rs) (hideBody ch b))
   registers-close rs b =
-      ap (λ (xs : List Register). withStore (keeping xs [] []) b) (sym (registers-twice ch rs))
+      ap (λ (xs : List Register). withOtherRows (keeping xs [] []) b) (sym (registers-twice ch rs))
 
   assigned-close : (n : Name) (v : ℕ) (b : Body) → given n (b .store .registers) ≡ true
       → hideBody ch (withAssigned n v b) ≡ hideBody ch (withAssigned n (hide (ch n) v) (hideBody ch b))
@@ -69,12 +73,12 @@ module _ (p : Protocol) (keeps : KeepsLengths p) (ch : Chosen) where
 
   columns-close : (cs : List Name) (b : Body) → hideBody ch (withColumns cs b) ≡ hideBody ch (withColumns cs (hideBody ch b))
   columns-close cs b =
-      ap (λ (xs : List Register). withStore (keeping xs cs []) b) (sym (registers-twice ch (b .store .registers)))
+      ap (λ (xs : List Register). withOtherRows (keeping xs cs []) b) (sym (registers-twice ch (b .store .registers)))
 
   captured-close : (t : Clock) (b : Body) → hideBody ch (captured t b) ≡ hideBody ch (captured t (hideBody ch b))
   unfolding captured
   captured-close t b =
-      ap₂ (λ (xs : List Register) (rs : List Entry). withNumber (nextNumber (b .number)) (withStore (keeping xs (b .store .columns) rs) b))
+      ap₂ (λ (xs : List Register) (rs : List Entry). withNumber (nextNumber (b .number)) (withOtherRows (keeping xs (b .store .columns) rs) b))
       (sym (registers-twice ch (b .store .registers)))
       (sym (rows-pushed ch maxRows (b .store .columns) (rowNow t (hideBody ch b)) (rowNow t b) (b .store .rows) (row-hidden ch t b)))
 
@@ -102,11 +106,11 @@ module _ (p : Protocol) (keeps : KeepsLengths p) (ch : Chosen) where
   obeyed-hidden (setPeriod d) m z = ap (λ (b : Body). withBody b m) (body-twice ch (withPeriod d (m .body)))
   obeyed-hidden (tick t) m z = ap (λ (b : Body). withBody b m) (ticked-close t (m .body))
   obeyed-hidden (setP5 f) m z = hidden-twice (withLine (withP5 f (m .line)) m)
-  obeyed-hidden powerUp m z = ap (λ (b : Body). record { line = poweredLine (m .line); body = withNumber 0 b }) (emptied-twice ch (m .body))
+  obeyed-hidden powerUp m z = ap (λ (b : Body). record { line = poweredLine (m .line); body = withTransfer idle (withNumber 0 b) }) (emptied-twice ch (m .body))
 
   act-close : (c : Call) (m : Model) → Close (reads p ch c m) (act p c m) (act p (hiddenCall ch c) (hidden ch m))
   unfolding act
-  act-close (frame a) m = decided-close ((p .decide) (m .line) a) m
+  act-close (frame a) m = settles-close _ _ (decided-close ((p .decide) (m .line) a) m)
   act-close (owner o) m =
       rw (own-refusal-hidden o m)
       (close-if (eqb (ownRefusal o m) 0) (λ z. close-done _ _ (obeyed-hidden o m (eqb-true (ownRefusal o m) 0 z))) (close-refused (ownRefusal o m) m (hidden ch m) (hidden-twice m)))
@@ -114,9 +118,10 @@ module _ (p : Protocol) (keeps : KeepsLengths p) (ch : Chosen) where
   reads-hidden : (c : Call) (m : Model) → reads p ch (hiddenCall ch c) (hidden ch m) ≡ reads p ch c m
   reads-hidden (frame a) m = go ((p .decide) (m .line) a)
     where
-      go : (d : Decision) → decidesRead ch d (hidden ch m .body .store) ≡ decidesRead ch d (m .body .store)
+      go : (d : Decision) → decidesRead ch d (hidden ch m .body) ≡ decidesRead ch d (m .body)
       go (answer s) = refl
-      go (serve q w l) = asks (q .service)
+      go (serve (goOn i n) w l) = refl
+      go (serve (ask q) w l) = asks (q .service)
         where
           asks : (v : Service) → asksChosen ch (q .name) v (hidden ch m .body .store) ≡ asksChosen ch (q .name) v (m .body .store)
           asks (get a s) = simp (given-hidden ch (q .name) (m .body .store .registers))

@@ -1,5 +1,6 @@
--- What a name means to a client, by the name: the rows go with the profile's name, a register's value with its own. And what a
--- granted ACTION was on, where it changes a body: method 1 of the profile, or of the record number.
+-- What a name means to a client, by the name: the rows go with the profile's name, a register's value with its own. What a
+-- granted ACTION was on, where it changes a body: method 1 of the profile, or of the record number. And that a GET or a numbered
+-- request changes nothing of a body but its transfer.
 use mathlib.Core.Path.{_≡_, refl}
 use mathlib.Core.Bool.{Bool, true, false, cond, not, _&&_}
 use mathlib.Core.List.{List, [], _∷_}
@@ -13,7 +14,8 @@ use Rattle.model.specs.declared.Client.the-variants.{Verification, Ciphe
 use Rattle.model.specs.declared.CipherClient.the-variants.{Han}
 use Rattle.model.specs.declared.Register.{Register}
 use Rattle.model.specs.Names.{every, sameName, given, bearing}
-use Rattle.model.specs.Objects.{Content, simple, rows, recordNumber, register, Own, ownObjects, deviceObject, profileNamed, recordNumberNamed, Meaning, known, unknown, amongOwn, meaning, serves, Parameter, Request, Result, granted, denied, goodParameter, methodInvoked}
+use Rattle.model.specs.State.{Transfer, idle, running, ended, Body, withTransfer}
+use Rattle.model.specs.Objects.{Content, simple, rows, recordNumber, register, Own, ownObjects, deviceObject, profileNamed, recordNumberNamed, Meaning, known, unknown, amongOwn, meaning, serves, Parameter, Request, Result, granted, begun, denied, goodParameter, methodInvoked, Turn, afterRead, continued}
 use Rattle.model.proofs.ListLaws.{both, both-true, by-test}
 
 -- What is to be shown of the meaning of a name: of each own object, where it bears the name; and of what the name means besides.
@@ -93,6 +95,7 @@ Acts (register r) n k = Unit {0}
 abbrev pub ActsBy : Meaning → Result → Name → ℕ → Type 0
 ActsBy unknown r n k = Unit {0}
 ActsBy (known o) (granted d) n k = Acts (o .content) n k
+ActsBy (known o) (begun t d) n k = Unit {0}
 ActsBy (known o) (denied c) n k = Unit {0}
 
 only-method : (j k : ℕ) → eqb j 1 ≡ true → serves j k ≡ true → eqb k 1 ≡ true
@@ -126,3 +129,14 @@ pub action-acts : (q : Request) (k : ℕ) (v : Parameter) (rs : List Register)
     → ActsBy (meaning (q .client) (q .name) rs) (methodInvoked q k v (meaning (q .client) (q .name) rs)) (q .name) k
 action-acts q k v rs =
     invoked-acts q k v (q .name) rs (meaning (q .client) (q .name) rs) (meaning-tells (q .client) (q .name) rs) (meaning-method (q .client) (q .name) rs)
+
+-- Reads.
+
+pub read-moves : (c : Client) (r : Result) (b : Body) → afterRead c r b ≡ withTransfer (afterRead c r b .transfer) b
+read-moves Verification r b = refl
+read-moves (Ciphering Han) r b = refl
+
+pub block-moves : (i n : ℕ) (b : Body) (t : Transfer) → continued i n b t .body ≡ withTransfer (continued i n b t .body .transfer) b
+block-moves i n b idle = refl
+block-moves i n b (running x k) = by-test (λ (u : Turn). u .body ≡ withTransfer (u .body .transfer) b) (eqb n k) (λ _. refl) (λ _. refl)
+block-moves i n b ended = refl

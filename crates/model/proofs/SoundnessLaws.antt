@@ -9,7 +9,7 @@ use lib.ListN.{length, getD}
 use Rattle.model.specs.Names.{every}
 use Rattle.model.specs.State.{Model}
 use Rattle.model.specs.declared.SoundnessTest.{SoundnessTest}
-use Rattle.model.specs.declared.SoundnessTest.the-variants.{RegisterList, ColumnList, PeriodPermitted, ClockValid, RowClocksValid, RowCount, RowCells, AssociationKind, AssociationOnLink, AgreedServices}
+use Rattle.model.specs.declared.SoundnessTest.the-variants.{RegisterList, ColumnList, PeriodPermitted, ClockValid, RowClocksValid, RowCount, RowCells, AssociationKind, AssociationOnLink, AgreedServices, TransferPossible}
 use Rattle.model.specs.Soundness.{passes, soundnessTests, sound}
 use Rattle.model.proofs.ListLaws.{both, both-true}
 
@@ -44,3 +44,4 @@ sound-passes m h t = go t
     go AssociationKind = at 7 (lit< tt)
     go AssociationOnLink = at 8 (lit< tt)
     go AgreedServices = at 9 (lit< tt)
+    go TransferPossible = at 10 (lit< tt)

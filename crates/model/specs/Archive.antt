@@ -15,7 +15,7 @@ use Rattle.model.specs.Clocks.{validClock}
 use Rattle.model.specs.Periods.{listed, captureDue}
 use Rattle.model.specs.State.{Line, Entry, Body, Model, newMeter}
 use Rattle.model.specs.Soundness.{lineSound, sound}
-use Rattle.model.specs.Objects.{profileNamed, recordNumberNamed, Service, get, action}
+use Rattle.model.specs.Objects.{profileNamed, recordNumberNamed, Service, get, action, Inquiry, ask, goOn}
 use Rattle.model.specs.Calls.{Lent, Call, frame, owner, OwnerCall, giveRegisters, setValue, setColumns, setPeriod, tick, setP5, powerUp, Outcome, refused, Decision, answer, serve, Protocol, step}
 
 -- Rows.
@@ -52,9 +52,13 @@ abbrev pub onProfile : Name → Service → Bool
 onProfile n (get a s) = false
 onProfile n (action k v) = sameName profileNamed n && eqb k 1
 
+abbrev pub inquiryEmpties : Inquiry → Bool
+inquiryEmpties (ask q) = onProfile (q .name) (q .service)
+inquiryEmpties (goOn i n) = false
+
 abbrev pub empties : Decision → Bool
 empties (answer s) = false
-empties (serve q w l) = onProfile (q .name) (q .service)
+empties (serve q w l) = inquiryEmpties q
 
 abbrev pub ownerEmpties : OwnerCall → Bool
 ownerEmpties (giveRegisters rs) = true
@@ -85,9 +89,13 @@ abbrev pub onRecordNumber : Name → Service → Bool
 onRecordNumber n (get a s) = false
 onRecordNumber n (action k v) = sameName recordNumberNamed n && eqb k 1
 
+abbrev pub inquiryRenumbers : Inquiry → Bool
+inquiryRenumbers (ask q) = onRecordNumber (q .name) (q .service)
+inquiryRenumbers (goOn i n) = false
+
 abbrev pub renumbers : Decision → Bool
 renumbers (answer s) = false
-renumbers (serve q w l) = onRecordNumber (q .name) (q .service)
+renumbers (serve q w l) = inquiryRenumbers q
 
 abbrev pub ownerResets : OwnerCall → Bool
 ownerResets (giveRegisters rs) = false

@@ -11,9 +11,9 @@ use Rattle.model.specs.declared.CipherClient.the-variants.{Han}
 use Rattle.model.specs.declared.Clock.{Clock}
 use Rattle.model.specs.Names.{every}
 use Rattle.model.specs.Clocks.{validClock, later, inRange}
-use Rattle.model.specs.Selecting.{Selection, all, selected, rangeSelector, rangeDescriptor, isRangeDescriptor, fromClock, toClock, goodRange}
-use Rattle.model.specs.State.{Entry, Body}
-use Rattle.model.specs.Objects.{profileNamed, get, Request, granted, denied, getAnswer, fitting, rowsData, refusalOf, Turn, turned}
+use Rattle.model.specs.Selecting.{Selection, all, selected, Picking, dated, rangeSelector, rangeDescriptor, isRangeDescriptor, fromClock, toClock, goodRange}
+use Rattle.model.specs.State.{Entry, profile, running, Body, withTransfer}
+use Rattle.model.specs.Objects.{profileNamed, get, Request, ask, Result, granted, denied, getAnswer, fitting, rowsData, refusalOf, transferAfter, Turn, turned}
 
 -- The order of clocks.
 
@@ -78,53 +78,63 @@ pub data Kept (f : Entry → Bool) : List Entry → List Entry → Type 0 where
 abbrev pub KeptWithin : (from to : Clock) → List Entry → List Entry → Type 0
 KeptWithin from to = Kept (λ r. inRange from to (r .clock))
 
--- H's GET of attribute 2 of the profile, selective access agreed or not
-abbrev pub profileAsked : (agreed : Bool) → (invoke : ℕ) → Selection → Request
-profileAsked agreed i s =
-    record { client = Ciphering Han; invoke = i; selective = agreed; class = 7; name = profileNamed; service = get 2 s }
+-- H's GET of attribute 2 of the profile; selective access, and block transfer, agreed or not
+abbrev pub profileAsked : (selective blocks : Bool) → (invoke : ℕ) → Selection → Request
+profileAsked selective blocks i s =
+    record { client = Ciphering Han; invoke = i; selective = selective; blocks = blocks; class = 7; name = profileNamed; service = get 2 s }
 
-abbrev pub profileRequest : (invoke : ℕ) → Selection → Request
-profileRequest i s = profileAsked true i s
+abbrev pub profileRequest : (blocks : Bool) → (invoke : ℕ) → Selection → Request
+profileRequest blocks i s = profileAsked true blocks i s
 
--- a turn that reads: the body stays
-abbrev pub readTurn : (invoke : ℕ) → List Entry → Body → Turn
-readTurn i rs b =
-    record { refusal = refusalOf (fitting (rowsData rs)); bytes = getAnswer i (fitting (rowsData rs)); body = b }
+-- a turn that reads: of the body nothing moves but the transfer
+abbrev pub readTurn : (invoke : ℕ) → Result → Body → Turn
+readTurn i r b = record { refusal = refusalOf r; bytes = getAnswer i r; body = withTransfer (transferAfter r) b }
 
--- the answer: these rows, where they fit
-pub record RangeAnswer (i : ℕ) (from to : Clock) (b : Body) : Type 0 where
+-- these rows, picked so: whole where they fit, and else in blocks where they were agreed
+abbrev pub rowsResult : (blocks : Bool) → Picking → List Entry → Result
+rowsResult blocks p rs = fitting blocks (running (profile p) 1) (rowsData rs)
+
+-- the answer: these rows
+pub record RangeAnswer (blocks : Bool) (i : ℕ) (from to : Clock) (b : Body) : Type 0 where
   pub rows : List Entry
   pub kept : KeptWithin from to (b .store .rows) rows
-  pub answer : turned (profileRequest i (selected rangeSelector (rangeDescriptor from to))) b ≡ readTurn i rows b
+  pub answer :
+      turned (ask (profileRequest blocks i (selected rangeSelector (rangeDescriptor from to)))) b
+      ≡ readTurn i (rowsResult blocks (dated from to) rows) b
 
 abbrev pub RangeReads : Type 0
 RangeReads =
-    (i : ℕ) (from to : Clock) (b : Body)
+    (blocks : Bool) (i : ℕ) (from to : Clock) (b : Body)
     → length (from .bytes) ≡ 12
     → length (to .bytes) ≡ 12
     → goodRange from to ≡ true
-    → RangeAnswer i from to b
+    → RangeAnswer blocks i from to b
 
 -- "(none: 01 00)"
 abbrev pub NoneInRange : Type 0
 NoneInRange =
-    (i : ℕ) (from to : Clock) (b : Body)
+    (blocks : Bool) (i : ℕ) (from to : Clock) (b : Body)
     → length (from .bytes) ≡ 12
     → length (to .bytes) ≡ 12
     → goodRange from to ≡ true
     → every (λ n r. not (inRange from to (r .clock))) 0 (b .store .rows) ≡ true
-    → turned (profileRequest i (selected rangeSelector (rangeDescriptor from to))) b
-    ≡ record { refusal = 0; bytes = getAnswer i (granted (0x01 ∷ 0x00 ∷ [])); body = b }
+    → turned (ask (profileRequest blocks i (selected rangeSelector (rangeDescriptor from to)))) b
+    ≡ readTurn i (granted (0x01 ∷ 0x00 ∷ [])) b
+
+-- the same answer
+pub record SameAnswer (t u : Turn) : Type 0 where
+  pub refusal : t .refusal ≡ u .refusal
+  pub bytes : t .bytes ≡ u .bytes
 
 -- a range that holds every clock is answered as the whole profile is
 abbrev pub AllInRange : Type 0
 AllInRange =
-    (i : ℕ) (from to : Clock) (b : Body)
+    (blocks : Bool) (i : ℕ) (from to : Clock) (b : Body)
     → length (from .bytes) ≡ 12
     → length (to .bytes) ≡ 12
     → goodRange from to ≡ true
     → every (λ n r. inRange from to (r .clock)) 0 (b .store .rows) ≡ true
-    → turned (profileRequest i (selected rangeSelector (rangeDescriptor from to))) b ≡ turned (profileRequest i all) b
+    → SameAnswer (turned (ask (profileRequest blocks i (selected rangeSelector (rangeDescriptor from to)))) b) (turned (ask (profileRequest blocks i all)) b)
 
 -- two rows, one before the other
 pub record TwoOf (r s : Entry) (rs : List Entry) : Type 0 where
@@ -146,31 +156,33 @@ BothKept =
 -- Refusals.
 
 abbrev pub deniedTurn : (invoke code : ℕ) → Body → Turn
-deniedTurn i c b = record { refusal = 13; bytes = getAnswer i (denied c); body = b }
+deniedTurn i c b = readTurn i (denied c) b
 
 -- "another object, shape or length, or picked columns, code 12", whatever its clocks are
 abbrev pub OtherShape : Type 0
 OtherShape =
-    (i : ℕ) (v : List ℕ) (b : Body)
+    (blocks : Bool) (i : ℕ) (v : List ℕ) (b : Body)
     → isRangeDescriptor v ≡ false
-    → turned (profileRequest i (selected rangeSelector v)) b ≡ deniedTurn i 12 b
+    → turned (ask (profileRequest blocks i (selected rangeSelector v))) b ≡ deniedTurn i 12 b
 
 -- "from not before to, or a clock not valid, code 13"
 abbrev pub BadRange : Type 0
 BadRange =
-    (i : ℕ) (v : List ℕ) (b : Body)
+    (blocks : Bool) (i : ℕ) (v : List ℕ) (b : Body)
     → isRangeDescriptor v ≡ true
     → goodRange (fromClock v) (toClock v) ≡ false
-    → turned (profileRequest i (selected rangeSelector v)) b ≡ deniedTurn i 13 b
+    → turned (ask (profileRequest blocks i (selected rangeSelector v))) b ≡ deniedTurn i 13 b
 
 -- and no selector but these two: "range is 1, and 01's entry selection moves to 2"
 abbrev pub OtherSelector : Type 0
 OtherSelector =
-    (i k : ℕ) (v : List ℕ) (b : Body)
+    (blocks : Bool) (i k : ℕ) (v : List ℕ) (b : Body)
     → eqb k 1 ≡ false
     → eqb k 2 ≡ false
-    → turned (profileRequest i (selected k v)) b ≡ deniedTurn i 12 b
+    → turned (ask (profileRequest blocks i (selected k v))) b ≡ deniedTurn i 12 b
 
 -- nor any where selective access was not agreed, whatever its value is
 abbrev pub NotAgreed : Type 0
-NotAgreed = (i k : ℕ) (v : List ℕ) (b : Body) → turned (profileAsked false i (selected k v)) b ≡ deniedTurn i 12 b
+NotAgreed =
+    (blocks : Bool) (i k : ℕ) (v : List ℕ) (b : Body)
+    → turned (ask (profileAsked false blocks i (selected k v))) b ≡ deniedTurn i 12 b

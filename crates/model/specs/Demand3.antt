@@ -10,8 +10,8 @@ use lib.Dec.{eqb}
 use Rattle.model.specs.declared.Name.{Name}
 use Rattle.model.specs.declared.Register.{Register}
 use Rattle.model.specs.Names.{sameName, given, withValue}
-use Rattle.model.specs.State.{Entry, Store, Body, Model, withBody, withStore, withCells}
-use Rattle.model.specs.Objects.{profileNamed, Service, get, action}
+use Rattle.model.specs.State.{Entry, Store, runs, Body, Model, withBody, withStore, withCells}
+use Rattle.model.specs.Objects.{profileNamed, Service, get, action, Inquiry, ask, goOn}
 use Rattle.model.specs.Calls.{Call, frame, owner, OwnerCall, giveRegisters, setValue, setColumns, setPeriod, tick, setP5, powerUp, Outcome, Decision, answer, serve, Protocol, step, trace}
 
 -- "Registers are chosen by name, whenever given."
@@ -89,14 +89,21 @@ asksChosen ch n (get a s) st =
     eqb a 2 && cond (sameName profileNamed n) (anyChosen ch (st .columns)) (given n (st .registers) && ch n)
 asksChosen ch n (action k v) st = false
 
--- a frame that comes to such a GET; one that the line alone answers reads nothing
-abbrev pub decidesRead : Chosen → Decision → Store → Bool
-decidesRead ch (answer s) st = false
-decidesRead ch (serve q w l) st = asksChosen ch (q .name) (q .service) st
+-- Document 02, Q-4: "All blocks of a granted read are part of that read in demand 3; a read whose transfer runs in a meter as first
+-- handed in counts as granted." So a numbered request reads what the transfer that runs reads, which is the profile; its columns are
+-- those of the first request, since other columns end the transfer.
+abbrev pub inquiresChosen : Chosen → Inquiry → Body → Bool
+inquiresChosen ch (ask q) b = asksChosen ch (q .name) (q .service) (b .store)
+inquiresChosen ch (goOn i n) b = runs (b .transfer) && anyChosen ch (b .store .columns)
+
+-- a frame that comes to such a read; one that the line alone answers reads nothing
+abbrev pub decidesRead : Chosen → Decision → Body → Bool
+decidesRead ch (answer s) b = false
+decidesRead ch (serve q w l) b = inquiresChosen ch q b
 
 -- the call is such a frame; no other call reads
 abbrev pub reads : Protocol → Chosen → Call → Model → Bool
-reads p ch (frame a) m = decidesRead ch ((p .decide) (m .line) a) (m .body .store)
+reads p ch (frame a) m = decidesRead ch ((p .decide) (m .line) a) (m .body)
 reads p ch (owner o) m = false
 
 -- "a read is granted when its frame call answers 0"

@@ -1,5 +1,5 @@
 -- Statements that keep demand 3 honest: its premises are met by as many meters as they should be, and its exception covers
--- nothing but what document 01 names. Proved in proofs/Honesty.
+-- nothing but what documents 01 and 02 name. Proved in proofs/Honesty.
 use mathlib.Core.Path.{_≡_}
 use mathlib.Core.Bool.{true, false, cond}
 use mathlib.Core.Logic.{_⊎_}
@@ -9,9 +9,9 @@ use Rattle.model.specs.declared.Name.{Name}
 use Rattle.model.specs.declared.Register.{Register}
 use lib.ListN.{getD}
 use Rattle.model.specs.Names.{sameName, given, withValue, blankRegister}
-use Rattle.model.specs.State.{Line, Entry, Store, Model, withBody, withStore, withCells}
+use Rattle.model.specs.State.{Line, Entry, Store, runs, Model, withBody, withStore, withCells}
 use Rattle.model.specs.Selecting.{Selection}
-use Rattle.model.specs.Objects.{profileNamed, get, Request}
+use Rattle.model.specs.Objects.{profileNamed, get, Request, ask, goOn}
 use Rattle.model.specs.Calls.{Lent, Call, frame, owner, OwnerCall, giveRegisters, setValue, setColumns, setPeriod, tick, setP5, powerUp, Wrap, serve, Protocol, step, trace}
 use Rattle.model.specs.Demand3.{Chosen, hiddenCall, Alike, AlikeCalls, anyChosen, reads}
 
@@ -95,13 +95,22 @@ abbrev pub UnchosenProfile : Protocol → Type 0
 UnchosenProfile p =
     (ch : Chosen) (m₁ m₂ : Model) (a : Lent) (q : Request) (w : Wrap) (l : Line)
     → Alike ch m₁ m₂
-    → (p .decide) (m₁ .line) a ≡ serve q w l
+    → (p .decide) (m₁ .line) a ≡ serve (ask q) w l
     → sameName profileNamed (q .name) ≡ true
     → anyChosen ch (m₁ .body .store .columns) ≡ false
     → step p (frame a) m₁ .sent ≡ step p (frame a) m₂ .sent
 
+-- So is a numbered request.
+abbrev pub UnchosenBlocks : Protocol → Type 0
+UnchosenBlocks p =
+    (ch : Chosen) (m₁ m₂ : Model) (a : Lent) (i n : ℕ) (w : Wrap) (l : Line)
+    → Alike ch m₁ m₂
+    → (p .decide) (m₁ .line) a ≡ serve (goOn i n) w l
+    → anyChosen ch (m₁ .body .store .columns) ≡ false
+    → step p (frame a) m₁ .sent ≡ step p (frame a) m₂ .sent
+
 -- What counts as a read is a frame that comes to a GET of attribute 2: of the profile while a column is chosen, or of a
--- register that is given and chosen.
+-- register that is given and chosen;
 pub record ChosenRead (p : Protocol) (ch : Chosen) (c : Call) (m : Model) : Type 0 where
   pub lent : Lent
   pub request : Request
@@ -109,11 +118,24 @@ pub record ChosenRead (p : Protocol) (ch : Chosen) (c : Call) (m : Model) : Type
   pub line : Line
   pub selection : Selection
   pub call : c ≡ frame lent
-  pub decided : (p .decide) (m .line) lent ≡ serve request wrap line
+  pub decided : (p .decide) (m .line) lent ≡ serve (ask request) wrap line
   pub service : request .service ≡ get 2 selection
   pub asked :
       ((sameName profileNamed (request .name) ≡ true) × (anyChosen ch (m .body .store .columns) ≡ true))
       ⊎ ((given (request .name) (m .body .store .registers) ≡ true) × (ch (request .name) ≡ true))
 
+-- or one that comes to a numbered request while a transfer runs and a column is chosen.
+pub record ChosenBlock (p : Protocol) (ch : Chosen) (c : Call) (m : Model) : Type 0 where
+  pub lent : Lent
+  pub invoke : ℕ
+  pub number : ℕ
+  pub wrap : Wrap
+  pub line : Line
+  pub call : c ≡ frame lent
+  pub decided : (p .decide) (m .line) lent ≡ serve (goOn invoke number) wrap line
+  pub running : runs (m .body .transfer) ≡ true
+  pub asked : anyChosen ch (m .body .store .columns) ≡ true
+
 abbrev pub ReadsAreChosen : Protocol → Type 0
-ReadsAreChosen p = (ch : Chosen) (c : Call) (m : Model) → reads p ch c m ≡ true → ChosenRead p ch c m
+ReadsAreChosen p =
+    (ch : Chosen) (c : Call) (m : Model) → reads p ch c m ≡ true → ChosenRead p ch c m ⊎ ChosenBlock p ch c m

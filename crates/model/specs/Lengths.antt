@@ -1,16 +1,23 @@
--- The lengths that document 01 writes as numbers, which specs/Limits and specs/Objects derive from the two limits of the link.
+-- The lengths that document 01 writes as numbers, which specs/Limits and specs/Objects derive from the two limits of the link; and
+-- those of answers in blocks (document 02, Q-4), worked out.
 -- Proved in proofs/LimitFacts. No other definition cites this page.
 use mathlib.Core.Path.{_≡_}
+use mathlib.Core.Bool.{true, false}
 use mathlib.Core.List.{List}
 use Prim.Native.Nat.{ℕ}
 use lib.ListN.{length, replicate}
-use Rattle.model.specs.Limits.{maxRows, longestSent, longestReceived, replyRoom, apduRoom, dataRoom, leastSize, greatestLength, greatestApdu, toldSize}
-use Rattle.model.specs.State.{Entry, newClock}
-use Rattle.model.specs.Objects.{denied, rowsData, fitting}
+use Rattle.model.specs.Limits.{maxRows, longestSent, longestReceived, replyRoom, apduRoom, dataRoom, blockRoom, leastSize, greatestLength, greatestApdu, toldSize}
+use Rattle.model.specs.Selecting.{whole}
+use Rattle.model.specs.State.{Entry, profile, Transfer, running, newClock}
+use Rattle.model.specs.Objects.{begun, denied, rowsData, fitting, block, isLast}
 
 -- fifteen rows of n columns
 abbrev pub rowsOfCells : ℕ → List Entry
 rowsOfCells n = replicate maxRows (record { number = 1; clock = newClock; cells = replicate n 0 })
+
+-- a read of all rows that begins
+abbrev pub wholeProfile : Transfer
+wholeProfile = running (profile whole) 1
 
 pub record NamedLengths : Type 0 where
   -- "reply room below 779"
@@ -28,4 +35,12 @@ pub record NamedLengths : Type 0 where
   -- "six columns and 15 rows take 737; seven take 812 and answer 250"
   pub six : length (rowsData (rowsOfCells 6)) ≡ 737
   pub seven : length (rowsData (rowsOfCells 7)) ≡ 812
-  pub long : fitting (rowsData (rowsOfCells 7)) ≡ denied 250
+  pub long : fitting false wholeProfile (rowsData (rowsOfCells 7)) ≡ denied 250
+  -- document 02, Q-4: with the block bit agreed they come in blocks, of 732 bytes where one is full; sixteen columns and 15 rows take
+  -- 1487 bytes, in three
+  pub full : blockRoom longestSent ≡ 732
+  pub begins : fitting true wholeProfile (rowsData (rowsOfCells 7)) ≡ begun wholeProfile (rowsData (rowsOfCells 7))
+  pub sixteen : length (rowsData (rowsOfCells 16)) ≡ 1487
+  pub third : length (block 3 (rowsData (rowsOfCells 16))) ≡ 23
+  pub last : isLast 3 (rowsData (rowsOfCells 16)) ≡ true
+  pub second : isLast 2 (rowsData (rowsOfCells 16)) ≡ false

@@ -15,3 +15,4 @@ pub mod Demand3
 pub mod Honesty
 pub mod Archive
 pub mod ByDate
+pub mod Blocks

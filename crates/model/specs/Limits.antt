@@ -40,6 +40,19 @@ textRoom sent = greatestText (apduRoom sent) (apduRoom sent)
 unfoldable pub dataRoom : ℕ → ℕ
 dataRoom sent = textRoom sent - 4
 
+-- the bytes of a block around n bytes of data: C4 02, invoke byte, last-block byte, four-byte number, 00, length, data
+unfoldable pub blockLength : ℕ → ℕ
+blockLength n = 9 + length (lengthField n) + n
+
+-- the greatest number up to n of bytes of data whose block fits the text
+unfoldable pub greatestBlock : ℕ → ℕ → ℕ
+greatestBlock text zero = 0
+greatestBlock text (suc n) = cond (leb (blockLength (suc n)) text) (suc n) (greatestBlock text n)
+
+-- the data of a full block
+unfoldable pub blockRoom : ℕ → ℕ
+blockRoom sent = greatestBlock (textRoom sent) (textRoom sent)
+
 -- the least size that an AARQ may propose
 unfoldable pub leastSize : ℕ → ℕ
 leastSize sent = sent

@@ -1,4 +1,4 @@
--- The services of an association, three bytes of bits (document 01, "The association").
+-- The services of an association, three bytes of bits (document 01, "The association"; document 02, Q-4, block transfer).
 use mathlib.Core.Bool.{Bool, true, false, _&&_}
 use mathlib.Core.List.{List, [], _∷_}
 use Prim.Native.Nat.{ℕ}
@@ -8,10 +8,10 @@ use Rattle.model.specs.declared.Client.{Client}
 use Rattle.model.specs.declared.Client.the-variants.{Verification, Ciphering}
 use Rattle.model.specs.declared.CipherClient.the-variants.{Han}
 
--- "V is offered 00 00 14 and H 00 00 15"
+-- "V is offered 00 00 14 and H 00 00 15"; "get with block transfer, offered to H by its service bit": 00 10 00 besides
 abbrev pub offered : Client → List ℕ
 offered Verification = 0x00 ∷ 0x00 ∷ 0x14 ∷ []
-offered (Ciphering Han) = 0x00 ∷ 0x00 ∷ 0x15 ∷ []
+offered (Ciphering Han) = 0x00 ∷ 0x10 ∷ 0x15 ∷ []
 
 -- "agreed: proposed and offered", bit by bit; a byte that is not proposed counts as 0
 unfoldable pub common : (proposed offered : List ℕ) → List ℕ
@@ -37,3 +37,6 @@ selectiveAccess = 0x00 ∷ 0x00 ∷ 0x04 ∷ []
 
 abbrev pub actionService : List ℕ
 actionService = 0x00 ∷ 0x00 ∷ 0x01 ∷ []
+
+abbrev pub blockTransfer : List ℕ
+blockTransfer = 0x00 ∷ 0x10 ∷ 0x00 ∷ []

@@ -1,23 +1,25 @@
--- "A state is sound when ..": the tests of document 01, one list of them in its order, and the state that passes all.
+-- "A state is sound when ..": the tests of document 01, one list of them in its order, then that of document 02, Q-4; and the state
+-- that passes all.
 use mathlib.Core.Bool.{Bool, true, false, _&&_, _||_}
 use mathlib.Core.List.{List, [], _∷_, map}
-use Prim.Native.Nat.{ℕ}
+use Prim.Native.Nat.{ℕ, _*_}
 use lib.ListN.{length}
-use lib.Dec.{eqb, leb}
+use lib.Dec.{eqb, ltb, leb}
 use Rattle.model.specs.declared.Name.{Name}
 use Rattle.model.specs.declared.Client.{Client}
 use Rattle.model.specs.declared.Client.the-variants.{Verification, Ciphering}
 use Rattle.model.specs.declared.CipherClient.the-variants.{Han}
 use Rattle.model.specs.declared.Register.{Register}
 use Rattle.model.specs.declared.SoundnessTest.{SoundnessTest}
-use Rattle.model.specs.declared.SoundnessTest.the-variants.{RegisterList, ColumnList, PeriodPermitted, ClockValid, RowClocksValid, RowCount, RowCells, AssociationKind, AssociationOnLink, AgreedServices}
-use Rattle.model.specs.Limits.{maxRows, maxRegisters, maxColumns}
+use Rattle.model.specs.declared.SoundnessTest.the-variants.{RegisterList, ColumnList, PeriodPermitted, ClockValid, RowClocksValid, RowCount, RowCells, AssociationKind, AssociationOnLink, AgreedServices, TransferPossible}
+use Rattle.model.specs.Limits.{longestSent, dataRoom, blockRoom, maxRows, maxRegisters, maxColumns}
 use Rattle.model.specs.Names.{every, distinct, allAmong, noneAmong, nameOf}
 use Rattle.model.specs.Clocks.{validClock}
 use Rattle.model.specs.Periods.{permittedPeriod}
-use Rattle.model.specs.Services.{offered, within}
-use Rattle.model.specs.State.{Association, none, pending, associated, Peer, Line, Model}
-use Rattle.model.specs.Objects.{ownNames}
+use Rattle.model.specs.Services.{offered, within, getService, selectiveAccess, blockTransfer}
+use Rattle.model.specs.Selecting.{Picking, whole, numbered, dated, goodRange}
+use Rattle.model.specs.State.{Association, none, pending, associated, Peer, Line, Long, profile, Transfer, idle, running, ended, Store, Model}
+use Rattle.model.specs.Objects.{ownNames, Picked, these, wrong, picked, longData}
 
 -- What the owner's calls accept.
 
@@ -70,6 +72,60 @@ servicesOffered l =
 abbrev pub lineSound : Line → Bool
 lineSound l = kindsKnown l && linksStand l && servicesOffered l
 
+-- A transfer "that no calls could have left, with H's association and the rows as they stand".
+
+-- the services that are in force: an association that is pending has none yet
+abbrev pub inForce : Association → List ℕ
+inForce none = []
+inForce (pending a k c s) = []
+inForce (associated a k) = a
+
+-- H is associated, with this service agreed
+abbrev pub hasAgreed : List ℕ → Line → Bool
+hasAgreed s l = within s (inForce (l .han .peer .association))
+
+-- H can ask for a read in blocks
+abbrev pub takesBlocks : Line → Bool
+takesBlocks l = hasAgreed getService l && hasAgreed blockTransfer l
+
+-- for one with a selector by its service besides
+abbrev pub couldPick : Picking → Line → Bool
+couldPick whole l = true
+couldPick (numbered from to) l = hasAgreed selectiveAccess l
+couldPick (dated from to) l = hasAgreed selectiveAccess l
+
+abbrev pub couldAsk : Long → Line → Bool
+couldAsk (profile p) l = couldPick p l
+
+-- "with H's association": it could have begun the transfer
+unfoldable pub allowed : Line → Transfer → Bool
+allowed l idle = true
+allowed l (running x k) = takesBlocks l && couldAsk x l
+allowed l ended = takesBlocks l
+
+abbrev pub areRows : Picked → Bool
+areRows (these rs) = true
+areRows (wrong c) = false
+
+abbrev pub goodPicking : Picking → Bool
+goodPicking whole = true
+goodPicking (numbered from to) = true
+goodPicking (dated from to) = goodRange from to
+
+-- the read would not be denied
+abbrev pub couldGrant : Long → Store → Bool
+couldGrant (profile p) s = goodPicking p && areRows (picked p (s .rows))
+
+-- "and the rows": the read has data, too long for one frame, and more of them come after the block that went out last
+unfoldable pub goesOn : Store → Transfer → Bool
+goesOn s idle = true
+goesOn s (running x k) =
+    couldGrant x s
+    && ltb (dataRoom longestSent) (length (longData x s))
+    && leb 1 k
+    && ltb (blockRoom longestSent * k) (length (longData x s))
+goesOn s ended = true
+
 -- The tests.
 
 -- the state passes the test
@@ -84,8 +140,9 @@ passes RowCells m = every (λ i r. eqb (length (r .cells)) (length (m .body .sto
 passes AssociationKind m = kindsKnown (m .line)
 passes AssociationOnLink m = linksStand (m .line)
 passes AgreedServices m = servicesOffered (m .line)
+passes TransferPossible m = allowed (m .line) (m .body .transfer) && goesOn (m .body .store) (m .body .transfer)
 
--- in the order of document 01
+-- in the order of document 01, then that of document 02
 abbrev pub soundnessTests : List SoundnessTest
 soundnessTests =
     RegisterList
@@ -98,6 +155,7 @@ soundnessTests =
     ∷ AssociationKind
     ∷ AssociationOnLink
     ∷ AgreedServices
+    ∷ TransferPossible
     ∷ []
 
 -- "sound"

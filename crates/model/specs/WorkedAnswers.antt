@@ -16,9 +16,9 @@ use Rattle.model.specs.declared.Client.the-variants.{Verification, Ciphe
 use Rattle.model.specs.declared.CipherClient.the-variants.{Han}
 use Rattle.model.specs.declared.Register.{Register}
 use Rattle.model.specs.Names.{every}
-use Rattle.model.specs.State.{Entry, Body}
+use Rattle.model.specs.State.{Entry, idle, Body}
 use Rattle.model.specs.Selecting.{all, selected, rangeDescriptor}
-use Rattle.model.specs.Objects.{named, get, action, absent, Service, turned, Picked, these, wrong, selectedRows}
+use Rattle.model.specs.Objects.{named, get, action, absent, Service, ask, turned, Picked, these, wrong, selectedRows}
 
 -- 18 minutes and 7 seconds past one, on the first day of 2017
 abbrev pub workedClock : Clock
@@ -38,6 +38,7 @@ workedBody =
       clock = workedClock;
       period = 900;
       number = 4996;
+      transfer = idle;
       store =
           record {
             registers = workedRegister ∷ [];
@@ -49,7 +50,7 @@ workedBody =
 -- what a request with the invoke byte C1 comes to: its refusal, or 0, and the bytes of its answer
 abbrev pub answers : Client → ℕ → Name → Service → (refusal : ℕ) → List ℕ → Bool
 answers c k n s refusal bytes =
-    let t = turned (record { client = c; invoke = 0xC1; selective = true; class = k; name = n; service = s }) workedBody in
+    let t = turned (ask (record { client = c; invoke = 0xC1; selective = true; blocks = true; class = k; name = n; service = s })) workedBody in
     eqb (t .refusal) refusal && sameBytes (t .bytes) bytes
 
 -- H reads an attribute whole, and the data are these

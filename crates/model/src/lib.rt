@@ -37,7 +37,7 @@ pub struct Counters {
     pub sent: u32,
 }
 
-// The tests of a sound state, in the order of document 01.
+// The tests of a sound state, in the order of document 01, then that of document 02, Q-4.
 pub enum SoundnessTest {
     RegisterList,
     ColumnList,
@@ -49,4 +49,5 @@ pub enum SoundnessTest {
     AssociationKind,
     AssociationOnLink,
     AgreedServices,
+    TransferPossible,
 }

@@ -1,4 +1,2 @@
 pub mod TableLaws
-pub mod MarkLaws
 pub mod PickLaws
-pub mod RangeLaws

@@ -38,4 +38,12 @@ foundAs n Unknown = unknown
 -- the request of this service
 abbrev pub requestAs : Query → Service → Request
 requestAs q s =
-    record { client = q .client; invoke = q .invoke; selective = q .selective; class = q .class; name = q .name; service = s }
+    record {
+      client = q .client;
+      invoke = q .invoke;
+      selective = q .selective;
+      blocks = q .blocks;
+      class = q .class;
+      name = q .name;
+      service = s;
+    }

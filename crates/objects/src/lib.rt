@@ -6,8 +6,8 @@ use model::Name;
 mod select;
 mod table;
 
-pub use select::count_marks;
 pub use select::pick_rows;
+pub use select::picking_of;
 pub use table::find;
 
 // What neither the rows nor a register has a part in.
@@ -50,6 +50,7 @@ pub struct Query {
     pub client: Client,
     pub invoke: u8,
     pub selective: bool,
+    pub blocks: bool,
     pub class: u16,
     pub name: Name,
 }
@@ -64,10 +65,4 @@ pub enum Selector {
 pub enum Argument {
     Absent,
     Present(usize),
-}
-
-// The rows picked, a bit for each, the lowest for the newest row; or a result code.
-pub enum Pick {
-    These { which: u16 },
-    Wrong(u8),
 }

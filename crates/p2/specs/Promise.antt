@@ -19,7 +19,8 @@ lent n g k c f = record { room = n; guk = g; ak = k; challenge = c; received = f
 
 -- the frame call: the model's promise at this protocol; where the meter is unchanged, the very meter comes back; and nothing is
 -- left of an association that ended, or of challenges that were answered. For 0, 7, 12 and 13 all else that the view does not show is
--- free: the places above a count, the fields of an association that was over before, and the challenges of one that was no longer pending
+-- free: the places above a count, the fields of an association that was over before, the challenges of one that was no longer pending,
+-- and what a transfer does not use
 pub record Answered (a : Lent) (m : Meter) (l o : List ℕ) (r : Received) : Type 0 where
   pub promised : Promised Meter view p2 (frame a) m (handed r l o)
   pub kept : listed (r .refusal) keeping ≡ true → r .meter ≡ m

@@ -18,6 +18,7 @@ ghost use Rattle.line.specs.View.{lineOf};
 ghost use Rattle.protocol.specs.Decide.{heard};
 ghost use Rattle.ending.specs.Inner.{Follows, Ready, received};
 ghost use Rattle.p2.specs.Promise.{Answered, lent};
+ghost use Rattle.p2.specs.Settling.{Settles};
 
 // The reply room that a call asks for.
 const REPLY_ROOM: usize = 779;
@@ -41,7 +42,7 @@ pub fn receive(
         return refused(3, meter);
     }
     let secrets = association::secrets_of(guk, ak, challenge);
-    hear(meter, secrets, frame, reply)
+    settle(hear(meter, secrets, frame, reply))
 }
 
 // What is refused of what is lent, whatever the meter and the frame are: 1, 2, or 0 where it is taken.
@@ -71,6 +72,27 @@ fn refused(refusal: u8, meter: Meter) -> Received
         refusal,
         count: 0,
         meter,
+    }
+}
+
+// The end of H's association forgets its transfer, ended or not.
+fn settle(answer: Received) -> Received
+    ensures { λ r. ⌜ Settles answer r ⌝ }
+{
+    let meter = answer.meter;
+    let line = meter.line;
+    let mut body = meter.body;
+    let transfer = body.transfer;
+    if meter::is_allowed(line, transfer) {
+        return answer;
+    }
+    let none = picks::no_transfer();
+    body.transfer = none;
+    let next = Meter { line, body };
+    Received {
+        refusal: answer.refusal,
+        count: answer.count,
+        meter: next,
     }
 }
 

@@ -1,7 +1,7 @@
 -- Rows by date at the plug: the statements of specs/ByDate, proved. The request is read, the body picks its rows, and the
 -- answer goes out as that to any request in an envelope.
 use mathlib.Core.Path.{_≡_, refl, sym, ap, _∙_}
-use mathlib.Core.Bool.{true}
+use mathlib.Core.Bool.{Bool, true}
 use mathlib.Core.List.{List, [], _∷_, flatMap}
 use Prim.Native.Nat.{ℕ, zero, suc, _≤_}
 use native.Mathlib.Omega.{arith}
@@ -18,26 +18,27 @@ use Rattle.model.specs.Limits.{longestSent, longestReceived, greatestApdu, enve
 use Rattle.model.specs.Clocks.{februaryDays, daysIn, realDate, realTime, fixedBytes, validClock, daysOfMonths, daysOfYears, dayNumber, moment, later, inRange}
 use Rattle.model.specs.Periods.{periods}
 use Rattle.model.specs.Services.{within}
-use Rattle.model.specs.Selecting.{selected, rangeSelector, rangeDescriptor, goodRange}
+use Rattle.model.specs.Selecting.{selected, Picking, dated, rangeSelector, rangeDescriptor, goodRange}
 use Rattle.model.specs.State.{Entry, Body, Model, withBody, withStore, withRows, newClock, newMeter, noCounters}
-use Rattle.model.specs.Soundness.{acceptedRegisters, acceptedColumns, sound}
+use Rattle.model.specs.Soundness.{acceptedRegisters, acceptedColumns, allowed, goesOn, sound}
 use Rattle.model.specs.Objects.{Turn, granted, rowData, rowsData, rowsWithin, fitting, getAnswer}
-use Rattle.model.specs.Calls.{Lent}
+use Rattle.model.specs.Calls.{Lent, settled}
 use Rattle.model.specs.Archive.{rowsOf}
-use Rattle.model.specs.ByDate.{done, taken, profileRequest, readTurn}
+use Rattle.model.specs.ByDate.{done, taken, profileRequest, readTurn, rowsResult}
 use Rattle.model.proofs.LimitFacts.{data-room}
 use Rattle.model.proofs.ByDate.{rows-kept, kept-only, range-turned, both-kept}
 use Rattle.cosem.specs.declared.Wanted.the-variants.{ReadSelected}
 use Rattle.cosem.specs.declared.Asked.{Asked}
 use Rattle.cosem.specs.declared.Reading.the-variants.{Asks}
 use Rattle.cosem.specs.declared.ServiceKind.the-variants.{Get}
-use Rattle.cosem.specs.Requests.{optionalPart, lastValue, readGet, readService, nameIn, requested}
-use Rattle.protocol.specs.Clients.{selectiveIn}
+use Rattle.cosem.specs.Requests.{optionalPart, lastValue, readGet, readGets, readService, nameIn, requested}
+use Rattle.protocol.specs.Clients.{selectiveIn, blocksIn}
 use Rattle.protocol.specs.Decide.{accepted, advanced}
-use Rattle.protocol.specs.Outcomes.{toH}
+use Rattle.protocol.specs.Outcomes.{replied, toH}
 use Rattle.protocol.specs.Lazy.{Asking}
 use Rattle.protocol.specs.ByDate.{getRange, RowsReadByDate, BothReadByDate, ByDateHappens}
 use Rattle.protocol.proofs.Turns.{read-fits}
+use Rattle.protocol.proofs.Settling.{settled-idle}
 use Rattle.protocol.proofs.Enclosed.{next-counter, someLine, someMeter, someLent, some-sends}
 use Rattle.protocol.proofs.SecondRow.{answer-opens}
 
@@ -64,21 +65,22 @@ abbrev rangeAsked : ℕ → Asked
 rangeAsked invoke = record { invoke = invoke; class = 7; wanted = ReadSelected 2 1 14 }
 
 range-asked : (invoke : ℕ) (from to : Clock) → length (from .bytes) ≡ 12 → length (to .bytes) ≡ 12 → readService Get (getRange invoke from to) ≡ Asks (rangeAsked invoke)
-unfolding getRange rangeDescriptor readGet optionalPart lastValue expected skipped numberAt lengthAt sameBytes greatestDepth layoutOf elementsEnd valueWithin valueEnd
+unfolding getRange rangeDescriptor readGets readGet optionalPart lastValue expected skipped numberAt lengthAt sameBytes greatestDepth layoutOf elementsEnd valueWithin valueEnd
 range-asked invoke = of-clocks (λ from to. readService Get (getRange invoke from to) ≡ Asks (rangeAsked invoke)) (λ a b c d e f g h i j k l m n o p q r s t u v w x. refl)
 
-range-requested : (invoke : ℕ) (from to : Clock) → length (from .bytes) ≡ 12 → length (to .bytes) ≡ 12
-    → requested (Ciphering Han) true (getRange invoke from to) (rangeAsked invoke) ≡ profileRequest invoke (selected rangeSelector (rangeDescriptor from to))
+range-requested : (blocks : Bool) (invoke : ℕ) (from to : Clock) → length (from .bytes) ≡ 12 → length (to .bytes) ≡ 12
+    → requested (Ciphering Han) true blocks (getRange invoke from to) (rangeAsked invoke) ≡ profileRequest blocks invoke (selected rangeSelector (rangeDescriptor from to))
 unfolding getRange rangeDescriptor requested nameIn filled
-range-requested invoke =
-    of-clocks (λ from to. requested (Ciphering Han) true (getRange invoke from to) (rangeAsked invoke) ≡ profileRequest invoke (selected rangeSelector (rangeDescriptor from to)))
+range-requested blocks invoke =
+    of-clocks (λ from to. requested (Ciphering Han) true blocks (getRange invoke from to) (rangeAsked invoke) ≡ profileRequest blocks invoke (selected rangeSelector (rangeDescriptor from to)))
     (λ a b c d e f g h i j k l m n o p q r s t u v w x. refl)
 
 -- The answer.
 
-rows-fit : (invoke : ℕ) (rs : List Entry) (b : Body) → length (rowsData rs) ≤ dataRoom longestSent → readTurn invoke rs b ≡ record { refusal = 0; bytes = getAnswer invoke (granted (rowsData rs)); body = b }
+rows-fit : (blocks : Bool) (p : Picking) (invoke : ℕ) (rs : List Entry) (b : Body) → length (rowsData rs) ≤ dataRoom longestSent
+    → readTurn invoke (rowsResult blocks p rs) b ≡ readTurn invoke (granted (rowsData rs)) b
 unfolding fitting
-rows-fit invoke rs b h = rw (le-leb (length (rowsData rs)) (dataRoom longestSent) h)
+rows-fit blocks p invoke rs b h = rw (le-leb (length (rowsData rs)) (dataRoom longestSent) h)
 
 pub rows-read-by-date : RowsReadByDate
 rows-read-by-date a m from to counter invoke rs k kept fits =
@@ -86,11 +88,16 @@ rows-read-by-date a m from to counter invoke rs k kept fits =
     let line = advanced Han (accepted Han counter (m .line)) in
     let same = kept-only _ (rowsOf m) rs (rowsWithin from to (rowsOf m)) kept (rows-kept from to (rowsOf m)) in
     let asked = range-asked invoke from to (k .first) (k .last) in
-    let request = range-requested invoke from to (k .first) (k .last) in
-    let read = range-turned invoke from to (m .body) (k .first) (k .last) (k .good) ∙ ap (λ (l : List Entry). readTurn invoke l (m .body)) (sym same) ∙ rows-fit invoke rs (m .body) fits in
+    let blocks = blocksIn (Ciphering Han) (m .line) in
+    let request = range-requested blocks invoke from to (k .first) (k .last) in
+    let read =
+    range-turned blocks invoke from to (m .body) (k .first) (k .last) (k .good)
+    ∙ ap (λ (l : List Entry). readTurn invoke (rowsResult blocks (dated from to) l) (m .body)) (sym same)
+    ∙ rows-fit blocks (dated from to) invoke rs (m .body) fits in
     let answer =
     rw (k .agreed, request) at (next-counter Han a m Get counter text (rangeAsked invoke) (k .isSound) (k .asks) asked)
-    ∙ ap (λ (x : Turn). record { refusal = x .refusal; sent = toH a (m .line) Han 0xD0 (x .bytes); next = record { line = line; body = x .body } }) read in
+    ∙ ap (λ (x : Turn). record { refusal = x .refusal; sent = toH a (m .line) Han 0xD0 (x .bytes); next = settled (record { line = line; body = x .body }) }) read
+    ∙ ap (replied 0 (toH a (m .line) Han 0xD0 (getAnswer invoke (granted (rowsData rs))))) (settled-idle line (m .body)) in
     record {
       answer = answer;
       found = rw answer (answer-opens Han a (m .line) Get counter text (k .asks) (getAnswer invoke (granted (rowsData rs))) (read-fits invoke (granted (rowsData rs)) fits));
@@ -119,7 +126,7 @@ abbrev datedLent : Lent
 datedLent = someLent 1 (getRange 0 hourBefore hourAfter)
 
 dated-sound : sound datedMeter ≡ true
-unfolding sound newMeter acceptedRegisters acceptedColumns validClock realDate realTime fixedBytes daysIn februaryDays periods maxRows maxRegisters maxColumns within
+unfolding sound newMeter acceptedRegisters acceptedColumns validClock realDate realTime fixedBytes daysIn februaryDays periods maxRows maxRegisters maxColumns within allowed goesOn
 dated-sound = refl
 
 dated-good : goodRange hourBefore hourAfter ≡ true

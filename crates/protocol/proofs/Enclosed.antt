@@ -2,7 +2,7 @@
 -- ends. `NextCounter`, `OutsideDropped` and `OverTheTop` of specs/Lazy, proved; and a meter and frames of which the last speaks.
 use mathlib.Core.Path.{_≡_, refl, sym, ap, _∙_}
 use mathlib.Core.Bool.{Bool, true, false, _||_, false≢true}
-use mathlib.Core.List.{List, [], _∷_}
+use mathlib.Core.List.{List}
 use mathlib.Core.Logic.{inl}
 use Prim.Native.Nat.{ℕ, _^_, _≤_, _<_}
 use native.Mathlib.Omega.{arith}
@@ -17,22 +17,22 @@ use Rattle.model.specs.declared.Counters.{Counters}
 use Rattle.model.specs.Limits.{longestSent, longestReceived, replyRoom, greatestApdu, envelopeLength, maxRows, maxRegisters, maxColumns}
 use Rattle.model.specs.Clocks.{februaryDays, daysIn, realDate, realTime, fixedBytes, validClock}
 use Rattle.model.specs.Periods.{periods}
-use Rattle.model.specs.Services.{within}
+use Rattle.model.specs.Services.{offered, within}
 use Rattle.model.specs.State.{Association, none, pending, associated, Line, Model, withLine, newPeer, noCounters, newMeter}
 use Rattle.model.specs.declared.SoundnessTest.the-variants.{AssociationOnLink}
-use Rattle.model.specs.Soundness.{acceptedRegisters, acceptedColumns, isNone, linksStand, onLink, sound}
-use Rattle.model.specs.Objects.{Request, turned}
-use Rattle.model.specs.Calls.{Lent, serve, decided}
+use Rattle.model.specs.Soundness.{acceptedRegisters, acceptedColumns, isNone, linksStand, onLink, allowed, goesOn, sound}
+use Rattle.model.specs.Objects.{Inquiry, goOn, turned}
+use Rattle.model.specs.Calls.{Lent, Wrap, Outcome, serve, decided, settles}
 use Rattle.model.proofs.ListLaws.{both}
 use Rattle.model.proofs.SoundnessLaws.{sound-passes}
 use Rattle.cosem.specs.declared.Wanted.the-variants.{Read}
 use Rattle.cosem.specs.declared.Asked.{Asked}
-use Rattle.cosem.specs.declared.Reading.the-variants.{Asks}
+use Rattle.cosem.specs.declared.Reading.the-variants.{Asks, GoesOn}
 use Rattle.cosem.specs.declared.Tag.the-variants.{DedicatedRequest}
 use Rattle.cosem.specs.declared.ServiceKind.{ServiceKind}
 use Rattle.cosem.specs.declared.ServiceKind.the-variants.{Get, Set, Action}
 use Rattle.cosem.specs.Tags.{tagOf, tagIn, dedicatedTag}
-use Rattle.cosem.specs.Requests.{optionalPart, readGet, readService, requested}
+use Rattle.cosem.specs.Requests.{optionalPart, readGet, readGets, readService}
 use Rattle.counters.specs.Advance.{taken}
 use Rattle.counters.specs.Window.{accepting}
 use Rattle.counters.proofs.StepLaws.{window-by-steps}
@@ -41,12 +41,12 @@ use Rattle.envelope.specs.Layout.{head, sealedEnvelope}
 use Rattle.envelope.specs.Opening.{longestApdu, opens}
 use Rattle.envelope.proofs.CloseLaws.{length-envelope, envelope-size}
 use Rattle.envelope.proofs.RoundTrip.{opens-closed}
-use Rattle.protocol.specs.Clients.{ciphering, counters, held, selectiveIn, dedicatedKeys, isAssociated}
-use Rattle.protocol.specs.Rulings.{Ruling, decision}
-use Rattle.protocol.specs.Decide.{wrap, askedInside, admitted, accepted, advanced, requestEnclosed, conversed, carried, around, seal, secretsOf, p2}
-use Rattle.protocol.specs.Outcomes.{outcome, headIn, enclosedGet, toH}
+use Rattle.protocol.specs.Clients.{ciphering, counters, held, blocksIn, dedicatedKeys, isAssociated}
+use Rattle.protocol.specs.Rulings.{Ruling, asks, decision}
+use Rattle.protocol.specs.Decide.{wrap, requestOf, askedInside, admitted, accepted, advanced, requestEnclosed, conversed, carried, ruled, decide, around, seal, secretsOf, p2}
+use Rattle.protocol.specs.Outcomes.{outcome, headIn, enclosedGet}
 use Rattle.protocol.proofs.MayLaws.{may-permitted, may-agreed, may-associated}
-use Rattle.protocol.specs.Lazy.{requestFrame, Sending, getProfile, NextCounter, OutsideDropped, OverTheTop, OverTheTopHappens}
+use Rattle.protocol.specs.Lazy.{requestFrame, Sending, Asking, answerOf, getProfile, NextCounter, OutsideDropped, OverTheTop, OverTheTopHappens}
 use Rattle.protocol.proofs.LinkUp.{outcome-ruled, ruled-request, tag-first}
 
 -- a client's part of the test of soundness
@@ -99,38 +99,75 @@ module _ (c : CipherClient) (a : Lent) (l : Line) (k : ServiceKind) (counter : �
         opens-closed (dedicatedKeys (a .ak) c l) (ciphering c l .peer .title) (dedicatedTag k) counter text (s .small) (s .short),
       )
 
-sent-outcome : (c : CipherClient) (a : Lent) (m : Model) (k : ServiceKind) (counter : ℕ) (text : List ℕ) → sound m ≡ true → Sending c a (m .line) k counter text
-    → outcome a m ≡ decided p2 (decision (sentRuling c (m .line) a k counter text)) m
+sent-ruled : (c : CipherClient) (a : Lent) (m : Model) (k : ServiceKind) (counter : ℕ) (text : List ℕ) → sound m ≡ true → Sending c a (m .line) k counter text
+    → ruled (m .line) a ≡ sentRuling c (m .line) a k counter text
 unfolding greatestApdu longestReceived
-sent-outcome c a m k counter text s sends =
+sent-ruled c a m k counter text s sends =
     let l = m .line in
     let n = length-envelope (dedicatedKeys (a .ak) c l) (ciphering c l .peer .title) (dedicatedTag k) counter text in
     let size = envelope-size (length text) in
     let short = sends .short in
     let reached = ruled-request l a (Ciphering c) (env c a l k counter text sends) (sends .received) (omega arith) (omega arith) in
     let carries = up-carried c a l k counter text sends (link-up-of c m s (associated-some (held c l) (may-associated (sends .may)))) in
-    outcome-ruled a m (sends .enough) s ∙ ap (λ (x : Ruling). decided p2 (decision x) m) (reached ∙ carries ∙ sent-conversed c a l k counter text sends)
+    reached ∙ carries ∙ sent-conversed c a l k counter text sends
 
--- what goes out around the body's answer, and the line that holds the counter taken
-sealed-outcome : (c : CipherClient) (a : Lent) (m : Model) (q : Request) (counter : ℕ) (k : ServiceKind)
-    → decided p2 (serve q (wrap (a .ak) (Ciphering c) (headIn a) (dedicatedTag k)) (advanced c (accepted c counter (m .line)))) m
-    ≡ record {
-      refusal = turned q (m .body) .refusal;
-      sent = toH a (m .line) c (dedicatedTag k) (turned q (m .body) .bytes);
-      next = record { line = advanced c (accepted c counter (m .line)); body = turned q (m .body) .body };
-    }
+-- What goes out around the body's answer, and the line that holds the counter taken: whatever is asked of the body.
+
+sealed-outcome : (c : CipherClient) (a : Lent) (m : Model) (q : Inquiry) (counter : ℕ) (k : ServiceKind)
+    → settles (decided p2 (serve q (wrap (a .ak) (Ciphering c) (headIn a) (dedicatedTag k)) (advanced c (accepted c counter (m .line)))) m)
+    ≡ answerOf c a m k counter q
 unfolding seal around taken accepting
 sealed-outcome Han a m q counter k = refl
 
+module _ (c : CipherClient) (a : Lent) (m : Model) (k : ServiceKind) (counter : ℕ) where
+  abbrev pub answerWrap : Wrap
+  answerWrap = wrap (a .ak) (Ciphering c) (headIn a) (dedicatedTag k)
+
+  abbrev pub answerLine : Line
+  answerLine = advanced c (accepted c counter (m .line))
+
+  -- the text, once its counter is accepted
+  pub asked-ruled : (text : List ℕ) → sound m ≡ true → Asking c a (m .line) k counter text
+      → ruled (m .line) a ≡ askedInside (m .line) (secretsOf a) c (headIn a) k counter text (readService k text)
+  asked-ruled text s i = sent-ruled c a m k counter text s (i .sends) ∙ rw (window-by-steps .passes (counters c (m .line) .accepted) counter (i .window))
+
+  -- the text comes to this inquiry
+  abbrev pub Inquires : (text : List ℕ) → Inquiry → Type 0
+  Inquires text q = askedInside (m .line) (secretsOf a) c (headIn a) k counter text (readService k text) ≡ asks q answerWrap answerLine
+
+  pub inquires : (text : List ℕ) (q : Asked) → readService k text ≡ Asks q → Inquires text (requestOf (m .line) (Ciphering c) text q)
+  inquires text q r = rw r
+
+  -- a numbered one, where block transfer was agreed
+  pub inquires-next : (text : List ℕ) (i n : ℕ) → readService k text ≡ GoesOn i n → blocksIn (Ciphering c) (m .line) ≡ true → Inquires text (goOn i n)
+  inquires-next text i n r b = rw (r, b)
+
+  module _ (text : List ℕ) (q : Inquiry) (s : sound m ≡ true) (i : Asking c a (m .line) k counter text) (r : Inquires text q) where
+    inquired-ruled : ruled (m .line) a ≡ asks q answerWrap answerLine
+    inquired-ruled = asked-ruled text s i ∙ r
+
+    pub inquired-decided : decide (m .line) a ≡ serve q answerWrap answerLine
+    unfolding decide
+    inquired-decided = ap decision inquired-ruled
+
+    inquired-settles : outcome a m ≡ settles (decided p2 (serve q answerWrap answerLine) m)
+    inquired-settles = outcome-ruled a m (i .sends .enough) s ∙ ap (λ (x : Ruling). settles (decided p2 (decision x) m)) inquired-ruled
+
+    pub inquired-sent : outcome a m .sent ≡ seal answerLine answerWrap (turned q (m .body) .bytes)
+    inquired-sent = ap (λ (o : Outcome). o .sent) inquired-settles
+
+    pub inquired-answer : outcome a m ≡ answerOf c a m k counter q
+    inquired-answer = inquired-settles ∙ sealed-outcome c a m q counter k
+
 pub next-counter : NextCounter
 next-counter c a m k counter text q s i r =
-    sent-outcome c a m k counter text s (i .sends)
-    ∙ rw (window-by-steps .passes (counters c (m .line) .accepted) counter (i .window), r)
-    (sealed-outcome c a m (requested (Ciphering c) (selectiveIn (Ciphering c) (m .line)) text q) counter k)
+    inquired-answer c a m k counter text (requestOf (m .line) (Ciphering c) text q) s i (inquires c a m k counter text q r)
 
 pub outside-dropped : OutsideDropped
 outside-dropped c a m k counter text s sends outside =
-    sent-outcome c a m k counter text s sends ∙ rw (window-by-steps .fails (counters c (m .line) .accepted) counter outside)
+    outcome-ruled a m (sends .enough) s
+    ∙ ap (λ (x : Ruling). settles (decided p2 (decision x) m)) (sent-ruled c a m k counter text s sends)
+    ∙ rw (window-by-steps .fails (counters c (m .line) .accepted) counter outside)
 
 -- The example of document 02.
 
@@ -141,14 +178,14 @@ over-the-top =
       fails = λ c a m k text s last sends. outside-dropped c a m k 4294967290 text s sends (record { steps = 0; off = inl refl; once = lit< tt; counts = rw last });
     }
 
--- A new meter with an associated H, whose counters are any.
+-- A new meter with an associated H, which agreed on all that it is offered, and whose counters are any.
 
 abbrev pub someLine : Counters → Line
 someLine n =
     record {
       title = replicate 8 0;
       verification = newPeer (replicate 8 0);
-      han = record { peer = record { title = replicate 8 0; up = true; association = associated (0x00 ∷ 0x00 ∷ 0x15 ∷ []) (replicate 16 0) }; counters = n };
+      han = record { peer = record { title = replicate 8 0; up = true; association = associated (offered (Ciphering Han)) (replicate 16 0) }; counters = n };
       p5 = false;
     }
 
@@ -156,7 +193,7 @@ abbrev pub someMeter : Counters → Model
 someMeter n = withLine (someLine n) (newMeter (replicate 16 0) (replicate 8 0) (replicate 8 0) (replicate 8 0))
 
 pub some-sound : (n : Counters) → sound (someMeter n) ≡ true
-unfolding sound newMeter acceptedRegisters acceptedColumns validClock realDate realTime fixedBytes daysIn februaryDays periods maxRows maxRegisters maxColumns within
+unfolding sound newMeter acceptedRegisters acceptedColumns validClock realDate realTime fixedBytes daysIn februaryDays periods maxRows maxRegisters maxColumns within allowed goesOn
 some-sound n = refl
 
 -- and what its H sends
@@ -181,7 +218,7 @@ abbrev pub profileAsked : ℕ → Asked
 profileAsked invoke = record { invoke = invoke; class = 7; wanted = Read 2 }
 
 pub profile-asked : (invoke : ℕ) → readService Get (getProfile invoke) ≡ Asks (profileAsked invoke)
-unfolding readGet optionalPart expected skipped numberAt sameBytes
+unfolding readGets readGet optionalPart expected skipped numberAt sameBytes
 profile-asked invoke = refl
 
 pub over-the-top-happens : OverTheTopHappens

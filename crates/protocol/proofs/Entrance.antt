@@ -24,7 +24,7 @@ use Rattle.model.specs.Services.{offered, common}
 use Rattle.model.specs.State.{Association, none as unassociated, pending, associated, CipheringPeer, Line, Model, withLine}
 use Rattle.model.specs.Soundness.{isNone, sound}
 use Rattle.model.specs.Objects.{challengeOf, denied, actionAnswer}
-use Rattle.model.specs.Calls.{Lent, frame as frameCall, Outcome, decided}
+use Rattle.model.specs.Calls.{Lent, frame as frameCall, Outcome, decided, settled, settles}
 use Rattle.hdlc.specs.declared.Head.{Head}
 use Rattle.hdlc.specs.Replies.{apduFrame}
 use Rattle.axdr.specs.Values.{greatestDepth, layoutOf, valueWithin, valueEnd}
@@ -56,12 +56,13 @@ use Rattle.envelope.proofs.CloseLaws.{length-envelope}
 use Rattle.envelope.proofs.ProofLaws.{length-proof, proof-right}
 use Rattle.envelope.proofs.RoundTrip.{opens-closed}
 use Rattle.protocol.specs.declared.Secrets.{Secrets}
-use Rattle.protocol.specs.Clients.{ciphering, linked, withAssociation, associates, counters, withCounters, held, agreedIn, keyIn, clientChallenge, lentKeys}
+use Rattle.protocol.specs.Clients.{ciphering, linked, withAssociation, associates, counters, withCounters, held, agreedIn, keyIn, clientChallenge, lentKeys, isAssociated}
 use Rattle.protocol.specs.Rulings.{none, plain, proof as proofText, provedText, encloses, Ruling, says, decision}
 use Rattle.protocol.specs.Decide.{acceptedCiphered, isChallenge, proofIn, provesItself, proved, disproved, challenged, challengeEnclosed, conversed, carried, secretsOf, p2}
 use Rattle.protocol.specs.Outcomes.{outcome, headIn, said}
-use Rattle.protocol.specs.Lazy.{Enough, up, keyedInitiate, aarqAround, challengeByte, proofAction, Entrance, Allowed, Enters, LetInCiphering, CipheringLetIn, Proving, WrongStepsDenied}
+use Rattle.protocol.specs.Lazy.{Enough, up, keyedInitiate, aarqAround, challengeByte, proofAction, Entrance, Allowed, Enters, withoutTransfer, LetInCiphering, CipheringLetIn, Proving, WrongStepsDenied}
 use Rattle.protocol.proofs.Claim.{p2-stays-sound}
+use Rattle.protocol.proofs.Settling.{up-none, settled-idle, settled-ended}
 use Rattle.protocol.proofs.LineLaws.{own-ciphering, own-title, own-part, replaced}
 use Rattle.protocol.proofs.LinkUp.{outcome-ruled, ruled-request, tag-first, up-outcome, up-sound}
 use Rattle.protocol.proofs.Enclosed.{tag-sealed, link-up-of}
@@ -359,11 +360,21 @@ module _ (c : CipherClient) (m : Model) (e : Entrance) (link aarq proof : Lent) 
   abbrev l : Line
   l = m .line
 
+  -- after the link-up, which ends the association before and with it a transfer; and after the AARQ
   abbrev m₁ : Model
-  m₁ = withLine (up (Ciphering c) l) m
+  m₁ = withLine (up (Ciphering c) l) (withoutTransfer m)
 
   abbrev m₂ : Model
-  m₂ = withLine (asked-line c l e (aarq .challenge)) m
+  m₂ = withLine (asked-line c l e (aarq .challenge)) (withoutTransfer m)
+
+  first-settled : settled (withLine (up (Ciphering c) l) m) ≡ m₁
+  first-settled = settled-ended (up (Ciphering c) l) (m .body) (ap isAssociated (up-none c l))
+
+  first-sound : sound m₁ ≡ true
+  first-sound = ap sound (sym first-settled) ∙ up-sound (Ciphering c) m link s refl enough₁ (enters .links)
+
+  second-settled : settled m₂ ≡ m₂
+  second-settled = settled-idle (asked-line c l e (aarq .challenge)) (m .body)
 
   abbrev sent : ℕ
   sent = counters c l .sent
@@ -376,7 +387,7 @@ module _ (c : CipherClient) (m : Model) (e : Entrance) (link aarq proof : Lent) 
       ≡ said 0
       (apduFrame (headIn aarq)
       (cipheredAareHead (Ciphering c) (l .title) (aarq .challenge) ++ sealedEnvelope (lentKeys (secretsOf aarq)) (l .title) 0x28 (nextCounter sent) (initiateResponse agreed)))
-      (asked-line c l e (aarq .challenge)) m
+      (asked-line c l e (aarq .challenge)) (withoutTransfer m)
   unfolding longestReceived taken accepting
   aarq-outcome =
       let from = ciphering c l .peer .title in
@@ -385,11 +396,11 @@ module _ (c : CipherClient) (m : Model) (e : Entrance) (link aarq proof : Lent) 
       let long = length-aarq c from (e .challenge) env eight (ok .challenge) fifty in
       let reached = ruled-request (up (Ciphering c) l) aarq (Ciphering c) (aarqAround from (e .challenge) env) (enters .asks) (omega arith) (omega arith) in
       let carries = aarq-carried c l (secretsOf aarq) (headIn aarq) (e .challenge) (e .key) (e .services) (e .size) (e .first) eight (ok .challenge) (ok .key) (ok .services) (ok .size) (ok .enough) (ok .small) in
-      outcome-ruled aarq m₁ enough₂ (up-sound (Ciphering c) m link s refl enough₁ (enters .links))
-      ∙ ap (λ (r : Ruling). decided p2 (decision r) m₁) (reached ∙ carries ∙ begun c l e (secretsOf aarq) (headIn aarq))
+      outcome-ruled aarq m₁ enough₂ first-sound
+      ∙ ap (λ (r : Ruling). settles (decided p2 (decision r) m₁)) (reached ∙ carries ∙ begun c l e (secretsOf aarq) (headIn aarq))
 
   second-sound : sound m₂ ≡ true
-  second-sound = ap (λ (o : Outcome). sound (o .next)) (sym aarq-outcome) ∙ p2-stays-sound (frameCall aarq) m₁ (up-sound (Ciphering c) m link s refl enough₁ (enters .links))
+  second-sound = ap sound (sym second-settled) ∙ ap (λ (o : Outcome). sound (o .next)) (sym aarq-outcome) ∙ p2-stays-sound (frameCall aarq) m₁ first-sound
 
   proof-outcome : outcome proof m₂
       ≡ (let number = nextCounter (nextCounter sent) in
@@ -397,7 +408,7 @@ module _ (c : CipherClient) (m : Model) (e : Entrance) (link aarq proof : Lent) 
       said 0
       (apduFrame (headIn proof)
       (sealedEnvelope keys (l .title) 0xCF (nextCounter number) (provedText keys (l .title) (e .challenge) (e .invoke) number)))
-      (withCounters c (record { accepted = e .outer; sent = nextCounter number }) (associates (Ciphering c) (associated agreed (e .key)) (up (Ciphering c) l))) m)
+      (withCounters c (record { accepted = e .outer; sent = nextCounter number }) (associates (Ciphering c) (associated agreed (e .key)) (up (Ciphering c) l))) (withoutTransfer m))
   unfolding longestReceived taken accepting
   proof-outcome =
       let from = ciphering c l .peer .title in
@@ -410,14 +421,14 @@ module _ (c : CipherClient) (m : Model) (e : Entrance) (link aarq proof : Lent) 
       let reached = ruled-request after proof (Ciphering c) env (enters .proves) (omega arith) (omega arith) in
       let carries = proof-carried c after (secretsOf proof) (headIn proof) (asked-part c l e (aarq .challenge)) (e .invoke) (e .inner) (e .outer) window inner (omega (arith, ok .between .inside)) (omega (arith, ok .window .counts)) in
       outcome-ruled proof m₂ enough₃ second-sound
-      ∙ ap (λ (r : Ruling). decided p2 (decision r) m₂) (reached ∙ carries ∙ proven c l e (secretsOf proof) (headIn proof) (aarq .challenge))
+      ∙ ap (λ (r : Ruling). settles (decided p2 (decision r) m₂)) (reached ∙ carries ∙ proven c l e (secretsOf proof) (headIn proof) (aarq .challenge))
 
   let-in : LetInCiphering c m e link aarq proof
   unfolding taken accepting
   let-in =
       let first = up-outcome (Ciphering c) m link s refl enough₁ (enters .links) in
-      let second = ap (λ (o : Outcome). outcome aarq (o .next)) first ∙ aarq-outcome in
-      record { first = first; second = second; third = ap (λ (o : Outcome). outcome proof (o .next)) second ∙ proof-outcome }
+      let second = ap (λ (o : Outcome). outcome aarq (o .next)) first ∙ ap (outcome aarq) first-settled ∙ aarq-outcome in
+      record { first = first; second = second; third = ap (λ (o : Outcome). outcome proof (o .next)) second ∙ ap (outcome proof) second-settled ∙ proof-outcome }
 
 pub ciphering-let-in : CipheringLetIn
 ciphering-let-in c m e link aarq proof s eight enough₁ enough₂ enough₃ ok enters = let-in c m e link aarq proof s eight enough₁ enough₂ enough₃ ok enters
@@ -446,7 +457,7 @@ module _ (c : CipherClient) (a : Lent) (m : Model) (outer inner invoke : ℕ) (s
       go false e = refl
 
 disproved-outcome : (c : CipherClient) (a : Lent) (m : Model) (invoke outer : ℕ)
-    → decided p2 (decision (disproved (m .line) (secretsOf a) c (headIn a) invoke outer)) m
+    → settles (decided p2 (decision (disproved (m .line) (secretsOf a) c (headIn a) invoke outer)) m)
     ≡ (let number = nextCounter (counters c (m .line) .sent) in
     said 13
     (apduFrame (headIn a) (sealedEnvelope (lentKeys (secretsOf a)) (m .line .title) 0xCF number (actionAnswer invoke (denied 250))))
@@ -464,4 +475,4 @@ wrong-steps-denied c a m outer inner invoke s p off =
     let window = window-by-steps .passes (counters c (m .line) .accepted) outer (p .window) in
     let reached = ruled-request (m .line) a (Ciphering c) env (p .received) (omega arith) (omega arith) in
     let carries = proof-carried c (m .line) (secretsOf a) (headIn a) (pending-part c a m outer inner invoke s p) invoke inner outer window (not-allowed c a m outer inner invoke s p off) (p .small) (omega (arith, p .window .counts)) in
-    outcome-ruled a m (p .enough) s ∙ ap (λ (r : Ruling). decided p2 (decision r) m) (reached ∙ carries) ∙ disproved-outcome c a m invoke outer
+    outcome-ruled a m (p .enough) s ∙ ap (λ (r : Ruling). settles (decided p2 (decision r) m)) (reached ∙ carries) ∙ disproved-outcome c a m invoke outer

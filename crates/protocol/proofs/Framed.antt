@@ -15,7 +15,8 @@ use Rattle.model.specs.Limits.{longestSent, replyRoom, apduRoom, textRoom}
 use Rattle.model.specs.Periods.{listed}
 use Rattle.model.specs.Services.{offered, common}
 use Rattle.model.specs.State.{Line, Model}
-use Rattle.model.specs.Calls.{Lent, lentRefusal, Outcome, decided}
+use Rattle.model.specs.Objects.{goOn}
+use Rattle.model.specs.Calls.{Lent, lentRefusal, Outcome, decided, settles}
 use Rattle.model.proofs.LimitFacts.{apdu-room, text-room}
 use Rattle.model.proofs.ListLaws.{both, neither}
 use Rattle.hdlc.specs.declared.Head.{Head}
@@ -30,7 +31,6 @@ use Rattle.hdlc.proofs.TestLaws.{all-pass, passes-in}
 use Rattle.hdlc.proofs.RoundTrip.{ReadBack, read-back, reply-passes}
 use Rattle.cosem.specs.declared.Exception.{Exception}
 use Rattle.cosem.specs.Tags.{exceptionBytes, releaseResponse, dedicatedTag, answerTag}
-use Rattle.cosem.specs.Requests.{requested}
 use Rattle.acse.specs.Initiate.{initiateResponse}
 use Rattle.acse.specs.Aare.{plainAare, cipheredAareHead, rejectedAare}
 use Rattle.acse.proofs.Layouts.{length-plain as length-aare, length-head, length-rejected}
@@ -38,9 +38,9 @@ use Rattle.acse.proofs.ServiceLaws.{length-common, length-offered}
 use Rattle.material.specs.Material.{Keys}
 use Rattle.envelope.specs.Layout.{sealedEnvelope}
 use Rattle.envelope.proofs.CloseLaws.{length-envelope, envelope-size, envelope-fits}
-use Rattle.protocol.specs.Clients.{counters, selectiveIn, lentKeys, dedicatedKeys}
+use Rattle.protocol.specs.Clients.{counters, lentKeys, dedicatedKeys}
 use Rattle.protocol.specs.Rulings.{Ruling, decision}
-use Rattle.protocol.specs.Decide.{acceptedPlain, acceptedCiphered, wrap, accepted, advanced, proved, disproved, around, seal, secretsOf, p2}
+use Rattle.protocol.specs.Decide.{acceptedPlain, acceptedCiphered, wrap, requestOf, accepted, advanced, proved, disproved, around, seal, secretsOf, p2}
 use Rattle.protocol.specs.Outcomes.{apduIn, Framed, Answers}
 use Rattle.protocol.proofs.Lengths.{length-exception, length-proved}
 use Rattle.protocol.proofs.Numbers.{FrameNumber, four, five, eight, nine, frame-number}
@@ -193,7 +193,7 @@ module _ (a : Lent) (m : Model) (title : length (m .line .title) ≡ 8) (challen
       let k = length-head (Ciphering c) (l .title) title (a .challenge) agreed challenge (length-common proposed (offered (Ciphering c)) ∙ length-offered (Ciphering c)) in
       framed-apdu f p (front ++ response) (omega arith) (omega (arith, apdu-room))
 
-  framed-leaf : {r : Ruling} → by.Leaf l a r → Sends (decided p2 (decision r) m)
+  framed-leaf : {r : Ruling} → by.Leaf l a r → Sends (settles (decided p2 (decision r) m))
   unfolding acceptedPlain acceptedCiphered proved disproved
   framed-leaf (by.unheard t n) e = absurd (unheard-number (frame-number t) n e)
   framed-leaf (by.rejects t n first) e = framed-reject f (odd-rejected f t n first) t
@@ -209,15 +209,18 @@ module _ (a : Lent) (m : Model) (title : length (m .line .title) ≡ 8) (challen
   framed-leaf (by.begins c client key proposed n t) e = framed-accepted (t .reaches .heard .passes) c proposed _
   framed-leaf (by.releases c t) e = framed-apdu f (t .reaches .heard .passes) releaseResponse (omega arith) (omega (arith, apdu-room))
   framed-leaf (by.serves q t r) e =
-      let q = requested Verification (selectiveIn Verification l) (apduIn a) q in
+      let q = requestOf l Verification (apduIn a) q in
       framed-plain f (t .reaches .heard .passes) l (a .ak) _ (turned-some q (m .body)) (turned-fits q (m .body))
+  framed-leaf (by.goesOn i n t b) e = framed-plain f (t .reaches .heard .passes) l (a .ak) _ (turned-some (goOn i n) (m .body)) (turned-fits (goOn i n) (m .body))
   framed-leaf (by.unopened t) e = absurd (false≢true e)
   framed-leaf (by.drops c o w) e = absurd (false≢true e)
   framed-leaf (by.exceptsInside t c {e = x} k o w y) e = framed-exception f (o .timely .reaches .heard .passes) x
   framed-leaf (by.proves c invoke n o w) e = framed-sealed f (o .timely .reaches .heard .passes) _ _ _ _ _ (length-proved _ _ _ _ _) (omega (arith, text-room))
   framed-leaf (by.disproves c invoke n o w) e = framed-sealed f (o .timely .reaches .heard .passes) _ _ _ _ _ refl (omega (arith, text-room))
   framed-leaf (by.servesInside c k {n} {text} q o w r) e =
-      framed-inside f (o .timely .reaches .heard .passes) c (advanced c (accepted c n l)) (a .ak) _ (dedicatedTag k) (turned-fits (requested (Ciphering c) (selectiveIn (Ciphering c) l) text q) (m .body))
+      framed-inside f (o .timely .reaches .heard .passes) c (advanced c (accepted c n l)) (a .ak) _ (dedicatedTag k) (turned-fits (requestOf l (Ciphering c) text q) (m .body))
+  framed-leaf (by.goesOnInside c k {n} i j o w r b) e =
+      framed-inside f (o .timely .reaches .heard .passes) c (advanced c (accepted c n l)) (a .ak) _ (dedicatedTag k) (turned-fits (goOn i j) (m .body))
 
 -- where refusal 2 is not met, the challenge has 8 bytes
 lent-challenge : (a : Lent) → lentRefusal a ≡ 0 → length (a .challenge) ≡ 8

@@ -2,7 +2,7 @@
 -- statements about all frames go by cases of `Leaf`: a sound line stays sound (proofs/Lines), the rows of document 01's table
 -- (proofs/Outcomes), what goes out is a frame (proofs/Framed). A branch more in specs/Decide is one leaf here and one clause in
 -- each of them. The rows of specs/Outcomes are a data type of their own, since they speak of whole calls, in the table's words.
-use mathlib.Core.Path.{_≡_, refl, sym, ap, _∙_}
+use mathlib.Core.Path.{_≡_, refl, sym, ap, subst, _∙_}
 use mathlib.Core.Bool.{Bool, true, false, cond, not, false≢true}
 use mathlib.Core.List.{List}
 use Prim.Native.Nat.{ℕ, _-_, _≤_, _<_}
@@ -15,6 +15,7 @@ use Rattle.model.specs.declared.CipherClient.{CipherClient}
 use Rattle.model.specs.declared.Client.the-variants.{Verification, Ciphering}
 use Rattle.model.specs.declared.CipherClient.the-variants.{Han}
 use Rattle.model.specs.State.{Association, none, Line}
+use Rattle.model.specs.Objects.{goOn}
 use Rattle.model.specs.Calls.{Lent}
 use Rattle.model.proofs.ListLaws.{by-test}
 use Rattle.hdlc.specs.declared.Head.{Head}
@@ -31,13 +32,15 @@ use Rattle.cosem.specs.declared.Tag.{Tag}
 use Rattle.cosem.specs.declared.Tag.the-variants.{Aarq, Rlrq, PlainRequest, GlobalAction, DedicatedRequest}
 use Rattle.cosem.specs.declared.ServiceKind.{ServiceKind}
 use Rattle.cosem.specs.declared.ServiceKind.the-variants.{Get, Action}
+use Rattle.cosem.specs.declared.Part.{Part}
+use Rattle.cosem.specs.declared.Part.the-variants.{Absent, Present, Wrong}
 use Rattle.cosem.specs.declared.Asked.{Asked}
 use Rattle.cosem.specs.declared.Exception.{Exception}
 use Rattle.cosem.specs.declared.Exception.the-variants.{ServiceNotAllowed, ServiceUnknown}
 use Rattle.cosem.specs.declared.Reading.{Reading}
-use Rattle.cosem.specs.declared.Reading.the-variants.{Asks, Malformed}
+use Rattle.cosem.specs.declared.Reading.the-variants.{Asks, GoesOn, Malformed}
 use Rattle.cosem.specs.Tags.{dedicatedTag, isRelease, releaseResponse, exceptionBytes}
-use Rattle.cosem.specs.Requests.{readGet, readAction, readService, requested}
+use Rattle.cosem.specs.Requests.{actionNormal, optionalPart, lastValue, actionWith, readAction, readService}
 use Rattle.acse.specs.declared.Aarq.{Aarq as ReadAarq}
 use Rattle.acse.specs.declared.Aarq.the-variants.{Plain, Ciphered, Departs}
 use Rattle.acse.specs.declared.InitiateRequest.{InitiateRequest}
@@ -47,10 +50,10 @@ use Rattle.acse.specs.Aarq.{readAarq}
 use Rattle.counters.specs.Window.{inWindow}
 use Rattle.envelope.specs.Opening.{Opened, fails, opens, opened}
 use Rattle.protocol.specs.declared.Secrets.{Secrets}
-use Rattle.protocol.specs.Clients.{ciphering, peer, withPeer, linked, associates, counters, agreedIn, selectiveIn, lentKeys, dedicatedKeys, permitted, bitAgreed, isUnknown}
+use Rattle.protocol.specs.Clients.{ciphering, peer, withPeer, linked, associates, counters, agreedIn, blocksIn, lentKeys, dedicatedKeys, permitted, bitAgreed, isUnknown}
 use Rattle.protocol.specs.Rulings.{Test, none as noTest, frame, linkUpWithInformation, p5HoldsV, linkDownWhileDown, dataWhileDown, unknownTag, tagNotPermitted, bitNotAgreed, envelopeUnopened, outsideWindow, malformedApdu, notTheChallenge, refusalOf, nothing, ua, dm, reject, apdu, Ruling, says, asks, refusedAarq}
-use Rattle.protocol.specs.Decide.{heldByP5, linkUp, linkDown, acceptedPlain, acceptedCiphered, initiated, enclosed, associating, released, wrap, asked, accepted, advanced, askedInside, isChallenge, provesItself, proved, disproved, challenged, answeredChallenge, admitted, challengeEnclosed, requestEnclosed, byTag, conversed, carried, heard, secretsOf, ruled}
-use Rattle.protocol.specs.Outcomes.{headIn, apduIn, tagSent, Heard, Reaches, MaySend, Unreached, Timely, Opens, byGuk, byKey, Brings, Accepted, Outside, Excepted, ExceptedInside, malformedProof, malformedRequest}
+use Rattle.protocol.specs.Decide.{heldByP5, linkUp, linkDown, acceptedPlain, acceptedCiphered, initiated, enclosed, associating, released, wrap, requestOf, asked, accepted, advanced, askedInside, isChallenge, provesItself, proved, disproved, challenged, answeredChallenge, admitted, challengeEnclosed, requestEnclosed, byTag, conversed, carried, heard, secretsOf, ruled}
+use Rattle.protocol.specs.Outcomes.{headIn, apduIn, tagSent, Heard, Reaches, MaySend, Unreached, Timely, Opens, byGuk, byKey, Brings, Accepted, Outside, Misshapen, unreadable, numbered, Excepted, ExceptedInside, malformedProof, malformedRequest}
 use Rattle.protocol.specs.Outcomes as out
 use Rattle.protocol.proofs.MayLaws.{may, may-permitted, may-agreed}
 
@@ -72,22 +75,41 @@ pub data Leaf (l : Line) (a : Lent) : Ruling → Type 0 where
   begins : (c : CipherClient) (client key proposed : List ℕ) (n : ℕ) → Timely a l (Ciphering c) Aarq
       → Leaf l a (acceptedCiphered l (secretsOf a) c (headIn a) client key proposed n)
   releases : (c : Client) → Timely a l c Rlrq → Leaf l a (says noTest (apdu (headIn a) releaseResponse) (associates c none l))
-  -- the body is asked
-  serves : (q : Asked) → Timely a l Verification (PlainRequest Get) → readGet (apduIn a) ≡ Asks q
-      → Leaf l a (asks (requested Verification (selectiveIn Verification l) (apduIn a) q) (wrap (a .ak) Verification (headIn a) 0xC0) l)
+  -- the body is asked; by a numbered request of V on no sound line (proofs/Settling)
+  serves : (q : Asked) → Timely a l Verification (PlainRequest Get) → readService Get (apduIn a) ≡ Asks q
+      → Leaf l a (asks (requestOf l Verification (apduIn a) q) (wrap (a .ak) Verification (headIn a) 0xC0) l)
+  goesOn : (invoke number : ℕ) → Timely a l Verification (PlainRequest Get) → blocksIn Verification l ≡ true
+      → Leaf l a (asks (goOn invoke number) (wrap (a .ak) Verification (headIn a) 0xC0) l)
   -- envelopes of a client that ciphers: 6, and 7
   unopened : {c : CipherClient} {t : Tag} → Timely a l (Ciphering c) t → Leaf l a (says envelopeUnopened nothing l)
   drops : (c : CipherClient) {t : Tag} {n : ℕ} {text : List ℕ} → Brings a l c t n text → Outside c n l
       → Leaf l a (says outsideWindow nothing (associates (Ciphering c) none l))
   -- 12, inside one
-  exceptsInside : (x : Test) (c : CipherClient) {t : Tag} {n : ℕ} {text : List ℕ} {e : Exception} → refusalOf x ≡ 12 → Brings a l c t n text → Accepted c n l → ExceptedInside c text t e
+  exceptsInside : (x : Test) (c : CipherClient) {t : Tag} {n : ℕ} {text : List ℕ} {e : Exception} → refusalOf x ≡ 12 → Brings a l c t n text → Accepted c n l → ExceptedInside l c text t e
       → Leaf l a (says x (apdu (headIn a) (exceptionBytes e)) (accepted c n l))
   -- a proof: right, or 13
   proves : (c : CipherClient) (invoke n : ℕ) {text : List ℕ} → Brings a l c GlobalAction n text → Accepted c n l → Leaf l a (proved l (secretsOf a) c (headIn a) invoke n)
   disproves : (c : CipherClient) (invoke n : ℕ) {text : List ℕ} → Brings a l c GlobalAction n text → Accepted c n l → Leaf l a (disproved l (secretsOf a) c (headIn a) invoke n)
   -- the body is asked
   servesInside : (c : CipherClient) (k : ServiceKind) {n : ℕ} {text : List ℕ} (q : Asked) → Brings a l c (DedicatedRequest k) n text → Accepted c n l → readService k text ≡ Asks q
-      → Leaf l a (asks (requested (Ciphering c) (selectiveIn (Ciphering c) l) text q) (wrap (a .ak) (Ciphering c) (headIn a) (dedicatedTag k)) (advanced c (accepted c n l)))
+      → Leaf l a (asks (requestOf l (Ciphering c) text q) (wrap (a .ak) (Ciphering c) (headIn a) (dedicatedTag k)) (advanced c (accepted c n l)))
+  goesOnInside : (c : CipherClient) (k : ServiceKind) {n : ℕ} {text : List ℕ} (invoke number : ℕ) → Brings a l c (DedicatedRequest k) n text → Accepted c n l → readService k text ≡ GoesOn invoke number → blocksIn (Ciphering c) l ≡ true
+      → Leaf l a (asks (goOn invoke number) (wrap (a .ak) (Ciphering c) (headIn a) (dedicatedTag k)) (advanced c (accepted c n l)))
+
+-- an ACTION is no numbered request
+action-unnumbered : (text : List ℕ) (invoke number : ℕ) → readAction text ≡ GoesOn invoke number → ⊥
+unfolding readAction
+action-unnumbered text i n e = false≢true (sym (go (optionalPart actionNormal text)) ∙ ap isNumbered e)
+  where
+    isNumbered : Reading → Bool
+    isNumbered (Asks q) = false
+    isNumbered (GoesOn j k) = true
+    isNumbered Malformed = false
+
+    go : (p : Part) → isNumbered (actionWith text p) ≡ false
+    go Absent = refl
+    go Present = by-test (λ (r : Reading). isNumbered r ≡ false) (lastValue text 13) (λ _. refl) (λ _. refl)
+    go Wrong = refl
 
 module _ (l : Line) (a : Lent) where
   abbrev Is : Ruling → Type 0
@@ -117,9 +139,15 @@ module _ (l : Line) (a : Lent) where
   unfolding released
   leaf-released c t = by-test Is (isRelease (apduIn a)) (λ _. releases c t) (λ e. excepts malformedApdu refl (t .reaches) (out.malformedRelease t e))
 
-  leaf-asked : Timely a l Verification (PlainRequest Get) → (r : Reading) → readGet (apduIn a) ≡ r → Is (asked l lent Verification h (apduIn a) r)
-  leaf-asked t Malformed e = excepts malformedApdu refl (t .reaches) (out.malformedGet t e)
+  -- what the reading is, of a request that is malformed
+  misshapen : {c : Client} {r x : Reading} → x ≡ r → Misshapen l c r → Misshapen l c x
+  misshapen {c} e m = subst (Misshapen l c) (sym e) m
+
+  leaf-asked : Timely a l Verification (PlainRequest Get) → (r : Reading) → readService Get (apduIn a) ≡ r → Is (asked l lent Verification h (apduIn a) r)
+  leaf-asked t Malformed e = excepts malformedApdu refl (t .reaches) (out.malformedGet t (misshapen e unreadable))
   leaf-asked t (Asks q) e = serves q t e
+  leaf-asked t (GoesOn i n) e =
+      by-test Is (blocksIn Verification l) (goesOn i n t) (λ b. excepts malformedApdu refl (t .reaches) (out.malformedGet t (misshapen e (numbered b))))
 
   -- Envelopes of a client that ciphers.
 
@@ -141,8 +169,10 @@ module _ (l : Line) (a : Lent) where
         by-test Is (inWindow (counters c l .accepted) n) (k n text o) (drops c o)
 
     leaf-inside : (k : ServiceKind) (n : ℕ) (text : List ℕ) → Brings a l c (DedicatedRequest k) n text → Accepted c n l → (r : Reading) → readService k text ≡ r → Is (askedInside l lent c h k n text r)
-    leaf-inside k n text o w Malformed e = exceptsInside malformedApdu c refl o w (malformedRequest e)
+    leaf-inside k n text o w Malformed e = exceptsInside malformedApdu c refl o w (malformedRequest (misshapen e unreadable))
     leaf-inside k n text o w (Asks q) e = servesInside c k q o w e
+    leaf-inside k n text o w (GoesOn i j) e =
+        by-test Is (blocksIn (Ciphering c) l) (goesOnInside c k i j o w e) (λ b. exceptsInside malformedApdu c refl o w (malformedRequest (misshapen e (numbered b))))
 
     leaf-request : (k : ServiceKind) → Timely a l (Ciphering c) (DedicatedRequest k) → Is (requestEnclosed l lent c h k (apduIn a))
     unfolding requestEnclosed
@@ -159,6 +189,7 @@ module _ (l : Line) (a : Lent) where
     leaf-answered : (n : ℕ) (text : List ℕ) → Brings a l c GlobalAction n text → Accepted c n l → (r : Reading) → readAction text ≡ r → Is (answeredChallenge l lent c h n text r)
     leaf-answered n text o w Malformed e = exceptsInside malformedApdu c refl o w (malformedProof e)
     leaf-answered n text o w (Asks q) e = leaf-challenged n text q e o w
+    leaf-answered n text o w (GoesOn i j) e = absurd (action-unnumbered text i j e)
 
     leaf-challenge : Timely a l (Ciphering c) GlobalAction → Is (challengeEnclosed l lent c h (apduIn a))
     unfolding challengeEnclosed
@@ -180,7 +211,7 @@ module _ (l : Line) (a : Lent) where
   leaf-tag {c} out.aarq t = leaf-associating c t (readAarq (apduIn a) c (peer c l .title))
   leaf-tag {c} out.releasePending t = leaf-released c t
   leaf-tag {c} out.releaseAssociated t = leaf-released c t
-  leaf-tag (out.get e) t = leaf-asked t (readGet (apduIn a)) refl
+  leaf-tag (out.get e) t = leaf-asked t (readService Get (apduIn a)) refl
   leaf-tag (out.challenge {c}) t = leaf-challenge c t
   leaf-tag (out.enclosedGet {c} e) t = leaf-request c Get t
   leaf-tag (out.enclosedAction {c} e) t = leaf-request c Action t

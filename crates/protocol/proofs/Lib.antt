@@ -7,6 +7,7 @@ pub mod Examples
 pub mod Claim
 pub mod Leaves
 pub mod Turns
+pub mod Settling
 pub mod Outcomes
 pub mod Framed
 pub mod LinkUp
@@ -14,3 +15,5 @@ pub mod Enclosed
 pub mod SecondRow
 pub mod ByDate
 pub mod Entrance
+pub mod InBlocks
+pub mod Forgotten

@@ -100,6 +100,7 @@ module _ (l : Line) (a : Lent) (s : lineSound l ≡ true) where
       with-counters c _ _ (stands (Ciphering c) (pending (common proposed (offered (Ciphering c))) key client (a .challenge)) refl (common-within proposed (offered (Ciphering c))) (t .reaches .up))
   keeps-leaf (by.releases c t) = ends c
   keeps-leaf (by.serves q t e) = s
+  keeps-leaf (by.goesOn i n t b) = s
   keeps-leaf (by.unopened t) = s
   keeps-leaf (by.drops c o w) = ends (Ciphering c)
   keeps-leaf (by.exceptsInside t c n o w x) = with-counters c _ l s
@@ -109,6 +110,7 @@ module _ (l : Line) (a : Lent) (s : lineSound l ≡ true) where
       with-counters c _ _ (stands (Ciphering c) (associated (agreedIn x) (keyIn x)) refl (agreed-stays (Ciphering c) x p (good (Ciphering c) l s .services)) (o .timely .reaches .up))
   keeps-leaf (by.disproves c invoke n o w) = with-counters c _ _ (ends (Ciphering c))
   keeps-leaf (by.servesInside c k q o w e) = with-counters c _ _ (with-counters c _ l s)
+  keeps-leaf (by.goesOnInside c k i n o w e b) = with-counters c _ _ (with-counters c _ l s)
 
 pub keeps-lines : KeepsLines p2
 unfolding decide

@@ -20,15 +20,15 @@ use Rattle.model.specs.Limits.{longestSent, longestReceived, replyRoom, greates
 use Rattle.model.specs.Services.{offered, common}
 use Rattle.model.specs.State.{associated, Line, Model, withLine, newMeter}
 use Rattle.model.specs.Soundness.{sound}
-use Rattle.model.specs.Calls.{Lent, lentRefusal, frame as frameCall, Outcome, decided, act, step}
-use Rattle.model.proofs.StaySound.{new-meter-sound}
+use Rattle.model.specs.Calls.{Lent, lentRefusal, frame as frameCall, Outcome, decided, settled, settles, act, step}
+use Rattle.model.proofs.StaySound.{new-meter-sound, settled-stays}
 use Rattle.hdlc.specs.declared.Head.{Head}
 use Rattle.hdlc.specs.declared.Frame.the-variants.{LinkUp}
 use Rattle.hdlc.specs.Layout.{byte, headOf, formatOf, hcsOf, informationOf, fcsOf, headBytes, checked, flagged, frameOf}
 use Rattle.hdlc.specs.Addresses.{senderOf}
 use Rattle.hdlc.specs.Tests.{firstFailing}
 use Rattle.hdlc.specs.Reading.{refusedFrame, acceptedFrame, readFrame}
-use Rattle.hdlc.specs.Replies.{uaFrame}
+use Rattle.hdlc.specs.Replies.{uaFrame, dmFrame}
 use Rattle.hdlc.proofs.ReadingLaws.{read-told}
 use Rattle.hdlc.proofs.RoundTrip.{request-read, request-apdu}
 use Rattle.cosem.specs.declared.Tag.the-variants.{Aarq}
@@ -43,9 +43,10 @@ use Rattle.protocol.specs.Clients.{associates}
 use Rattle.protocol.specs.Rulings.{none as noTest, p5HoldsV, ua, dm, apdu, says, decision}
 use Rattle.protocol.specs.Decide.{heldByP5, linkUp, acceptedPlain, conversed, carried, secretsOf, ruled, decide, p2}
 use Rattle.protocol.specs.Examples.{linkUpFrame}
-use Rattle.protocol.specs.Outcomes.{outcome, headIn, said}
+use Rattle.protocol.specs.Outcomes.{outcome, headIn, replied, said}
 use Rattle.protocol.specs.Lazy.{Enough, requestFrame, aarqOfV, LinksUp, up, LinkUpLetsIn, HeldOff, NewMeterLetsIn, Speaks, LinkUpAnswered}
 use Rattle.protocol.proofs.Claim.{p2-stays-sound}
+use Rattle.protocol.proofs.Settling.{settled-same}
 
 -- By the ruling.
 
@@ -59,7 +60,7 @@ lends a e =
       eq-eqb (length (a .challenge)) 8 (e .challenge),
     )
 
-pub outcome-ruled : (a : Lent) (m : Model) → Enough a → sound m ≡ true → outcome a m ≡ decided p2 (decision (ruled (m .line) a)) m
+pub outcome-ruled : (a : Lent) (m : Model) → Enough a → sound m ≡ true → outcome a m ≡ settles (decided p2 (decision (ruled (m .line) a)) m)
 unfolding step act decide
 outcome-ruled a m e s = rw (lends a e, s)
 
@@ -88,16 +89,16 @@ module _ (c : Client) (m : Model) (a : Lent) (s : sound m ≡ true) (p : heldByP
   ruled-up = rw (e, p)
 
   pub up-outcome : outcome a m ≡ said 0 (uaFrame (headIn a)) (up c (m .line)) m
-  up-outcome = outcome-ruled a m enough s ∙ ap (λ r. decided p2 (decision r) m) ruled-up
+  up-outcome = outcome-ruled a m enough s ∙ ap (λ r. settles (decided p2 (decision r) m)) ruled-up
 
-  pub up-sound : sound (withLine (up c (m .line)) m) ≡ true
+  pub up-sound : sound (settled (withLine (up c (m .line)) m)) ≡ true
   up-sound = ap (λ (o : Outcome). sound (o .next)) (sym up-outcome) ∙ p2-stays-sound (frameCall a) m s
 
 pub held-off : HeldOff
 unfolding ruled linkUp
 held-off m a s p enough e =
     let off : ruled (m .line) a ≡ says p5HoldsV (dm (headIn a)) (m .line) = rw (e, p) in
-    outcome-ruled a m enough s ∙ ap (λ r. decided p2 (decision r) m) off
+    outcome-ruled a m enough s ∙ ap (λ r. settles (decided p2 (decision r) m)) off ∙ ap (replied 10 (dmFrame (headIn a))) (settled-stays m s)
 
 -- The AARQ.
 
@@ -137,13 +138,16 @@ link-up-lets-in m link aarq services size s p eight enough₁ enough₂ three tw
     let apdu = aarqOfV title services size in
     let first = up-outcome Verification m link s p enough₁ e₁ in
     let long = length-aarq title services size eight three two in
+    let m₁ = withLine (up Verification (m .line)) m in
+    let same : settled m₁ ≡ m₁ = settled-same (up Verification (m .line)) m s refl in
     let r = ruled-request (up Verification (m .line)) aarq Verification apdu e₂ (omega arith) (omega arith) ∙ aarq-carried title services size eight three two least (m .line) (secretsOf aarq) (headIn aarq) refl in
     record {
       first = first;
       second =
           ap (λ (o : Outcome). outcome aarq (o .next)) first
-          ∙ outcome-ruled aarq (withLine (up Verification (m .line)) m) enough₂ (up-sound Verification m link s p enough₁ e₁)
-          ∙ ap (λ r. decided p2 (decision r) (withLine (up Verification (m .line)) m)) r;
+          ∙ ap (outcome aarq) same
+          ∙ outcome-ruled aarq m₁ enough₂ (ap sound (sym same) ∙ up-sound Verification m link s p enough₁ e₁)
+          ∙ ap (λ r. settles (decided p2 (decision r) m₁)) r;
     }
 
 pub new-meter-lets-in : NewMeterLetsIn

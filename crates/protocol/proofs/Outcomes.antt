@@ -1,6 +1,7 @@
 -- Every frame call is one of the rows of document 01's table, and the cells follow: specs/Outcomes, proved.
-use mathlib.Core.Path.{_≡_, refl, subst, _∙_}
+use mathlib.Core.Path.{_≡_, refl, sym, subst, _∙_}
 use mathlib.Core.Bool.{Bool, true, false, cond, not, _||_, false≢true}
+use mathlib.Core.Logic.{_⊎_, inl, inr}
 use mathlib.Core.List.{List, [], _∷_}
 use Prim.Native.Nat.{ℕ, _≤_, _<_}
 use native.Mathlib.Omega.{arith}
@@ -13,11 +14,12 @@ use Rattle.model.specs.declared.CipherClient.the-variants.{Han}
 use Rattle.model.specs.Limits.{longestSent, replyRoom}
 use Rattle.model.specs.Names.{every}
 use Rattle.model.specs.Periods.{listed}
-use Rattle.model.specs.State.{none, Model}
-use Rattle.model.specs.Soundness.{sound}
-use Rattle.model.specs.Objects.{Request, turned}
-use Rattle.model.specs.Calls.{Lent, lentRefusal, frame as frameCall, Outcome, refused, serve, decided, act, step}
+use Rattle.model.specs.State.{none, idle, withTransfer, Model}
+use Rattle.model.specs.Soundness.{allowed, sound}
+use Rattle.model.specs.Objects.{Request, Inquiry, ask, goOn, turned}
+use Rattle.model.specs.Calls.{Lent, lentRefusal, frame as frameCall, Outcome, refused, serve, decided, settled, settles, act, step}
 use Rattle.model.proofs.ListLaws.{both, every-anywhere}
+use Rattle.model.proofs.StaySound.{settled-stays}
 use Rattle.hdlc.specs.Layout.{frmr}
 use Rattle.hdlc.specs.Replies.{replyFrame}
 use Rattle.cosem.specs.declared.Tag.the-variants.{PlainRequest, GlobalAction, DedicatedRequest}
@@ -28,11 +30,12 @@ use Rattle.cosem.specs.Requests.{requested}
 use Rattle.counters.specs.Advance.{taken}
 use Rattle.counters.specs.Window.{accepting}
 use Rattle.protocol.specs.Rulings.{Ruling, decision}
-use Rattle.protocol.specs.Clients.{associates, selectiveIn}
+use Rattle.protocol.specs.Clients.{associates, selectiveIn, blocksIn}
 use Rattle.protocol.specs.Decide.{wrap, acceptedPlain, acceptedCiphered, accepted, advanced, proved, disproved, around, seal, secretsOf, ruled, decide, p2}
-use Rattle.protocol.specs.Outcomes.{outcome, headIn, apduIn, SentBy, Timely, said, Accepted, Brings, Row, refuses, drops, overLength, badFrame, noLink, notAccepted, exception, denial, denialInside, wrongProof, links, tells, grants, grantsInside, RowsHold, FrameNumbers, Silent, Unchanged, Dropping, Dropped, Excepting, plain, inside, LastAccepted, PlainUnchanged, Advanced, request, proof, DeniedBody, DeniedLine}
+use Rattle.protocol.specs.Outcomes.{outcome, headIn, apduIn, SentBy, Timely, replied, said, Accepted, Brings, afterDenial, InquiryOf, its, next, Row, refuses, drops, overLength, badFrame, noLink, notAccepted, exception, denial, denialInside, wrongProof, links, tells, grants, grantsInside, RowsHold, FrameNumbers, Silent, Unchanged, Dropping, Dropped, Excepting, plain, inside, LastAccepted, PlainUnchanged, Advanced, request, proof, DeniedBody, DeniedLine}
 use Rattle.protocol.proofs.Claim.{p2-numbers-allowed}
 use Rattle.protocol.proofs.Numbers.{FrameNumber, four, five, eight, nine, frame-number}
+use Rattle.protocol.proofs.Settling.{counted-same, settled-same, settled-denied, no-blocks-of-v}
 use Rattle.protocol.proofs.Leaves as by
 use Rattle.protocol.proofs.Turns as by-turn
 
@@ -43,62 +46,77 @@ module _ (a : Lent) (m : Model) where
   row-unheard eight h = absurd (omega arith)
   row-unheard nine h = absurd (omega arith)
 
-  row-rejected : {n : ℕ} → FrameNumber n → 8 ≤ n → Row a m (said n (replyFrame (headIn a) frmr (headIn a .control ∷ 0x00 ∷ cond (eqb n 8) 0x04 0x01 ∷ [])) (m .line) m)
+  row-rejected : {n : ℕ} → FrameNumber n → 8 ≤ n → Row a m (replied n (replyFrame (headIn a) frmr (headIn a .control ∷ 0x00 ∷ cond (eqb n 8) 0x04 0x01 ∷ [])) m)
   row-rejected four h = absurd (omega arith)
   row-rejected five h = absurd (omega arith)
   row-rejected eight h = overLength
   row-rejected nine h = badFrame
 
-  -- the body's answer, to V and to a client that ciphers
-  row-served : (q : Request) → q .client ≡ Verification → Timely a (m .line) Verification (PlainRequest Get) → by-turn.Turning (m .body) (turned q (m .body))
-      → Row a m (decided p2 (serve q (wrap (a .ak) Verification (headIn a) 0xC0) (m .line)) m)
-  unfolding seal around
-  row-served q c t (by-turn.grants e) = rw e (grants q t c)
-  row-served q c t (by-turn.denies e b d) = rw (e, b) (denial t d)
+  -- on a sound meter
+  module _ (s : sound m ≡ true) where
+    -- the meter after it stands, where settling changes nothing
+    row-next : (n : ℕ) (bs : List ℕ) (after : Model) → settled after ≡ after → Row a m (replied n bs after) → Row a m (replied n bs (settled after))
+    row-next n bs after e r = subst (λ (x : Model). Row a m (replied n bs x)) (sym e) r
 
-  row-inside : (c : CipherClient) (k : ServiceKind) {asked : List ℕ} (q : Request) (n : ℕ) → q .client ≡ Ciphering c → Brings a (m .line) c (DedicatedRequest k) n asked → Accepted c n (m .line) → by-turn.Turning (m .body) (turned q (m .body))
-      → Row a m (decided p2 (serve q (wrap (a .ak) (Ciphering c) (headIn a) (dedicatedTag k)) (advanced c (accepted c n (m .line)))) m)
-  unfolding seal around taken accepting
-  row-inside Han k q n c o w (by-turn.grants e) = rw e (grantsInside q o w c)
-  row-inside Han k q n c o w (by-turn.denies e b d) = rw (e, b) (denialInside o w d)
+    row-stays : (n : ℕ) (bs : List ℕ) → Row a m (replied n bs m) → Row a m (said n bs (m .line) m)
+    row-stays n bs r = row-next n bs m (settled-stays m s) r
 
-  row-disproved : (c : CipherClient) (invoke n : ℕ) {asked : List ℕ} → Brings a (m .line) c GlobalAction n asked → Accepted c n (m .line)
-      → Row a m (decided p2 (decision (disproved (m .line) (secretsOf a) c (headIn a) invoke n)) m)
-  unfolding disproved taken accepting
-  row-disproved Han invoke n o w = wrongProof invoke o w
+    -- the body's answer, to V and to a client that ciphers
+    row-served : (q : Request) → q .client ≡ Verification → Timely a (m .line) Verification (PlainRequest Get) → by-turn.Turning Verification (m .body) (turned (ask q) (m .body))
+        → Row a m (settles (decided p2 (serve (ask q) (wrap (a .ak) Verification (headIn a) 0xC0) (m .line)) m))
+    unfolding seal around
+    row-served q c t (by-turn.grants e) = rw e (grants q t c)
+    row-served q c t (by-turn.denies e b d) = rw (e, b) (row-stays 13 _ (denial t d))
 
-  row-leaf : {r : Ruling} → by.Leaf (m .line) a r → Row a m (decided p2 (decision r) m)
-  unfolding acceptedPlain acceptedCiphered proved requested
-  row-leaf (by.unheard t h) = row-unheard (frame-number t) h
-  row-leaf (by.rejects t h first) = row-rejected (frame-number t) h
-  row-leaf (by.noLink t from e) = rw e noLink
-  row-leaf (by.goesUp c from p) = links _
-  row-leaf (by.goesDown c from up) = links _
-  row-leaf (by.excepts t n r x) = rw n (exception (plain r x))
-  row-leaf (by.departs c t) = notAccepted c t
-  row-leaf (by.associatesPlain proposed t) = tells _ _
-  row-leaf (by.begins c client key proposed n t) = tells _ _
-  row-leaf (by.releases c t) = tells _ _
-  row-leaf (by.serves q t e) =
-      let r = requested Verification (selectiveIn Verification (m .line)) (apduIn a) q in
-      row-served r refl t (by-turn.turning r (m .body))
-  row-leaf (by.unopened t) = refuses 6 refl
-  row-leaf (by.drops c o w) = drops o w
-  row-leaf (by.exceptsInside t c n o w x) = rw n (exception (inside o w x))
-  row-leaf (by.proves c invoke n o w) = tells _ _
-  row-leaf (by.disproves c invoke n o w) = row-disproved c invoke n o w
-  row-leaf (by.servesInside c k {n} {text} q o w e) =
-      let r = requested (Ciphering c) (selectiveIn (Ciphering c) (m .line)) text q in
-      row-inside c k r n refl o w (by-turn.turning r (m .body))
+    row-inside : (c : CipherClient) (k : ServiceKind) {asked : List ℕ} (q : Inquiry) (n : ℕ) → InquiryOf c (m .line) q → Brings a (m .line) c (DedicatedRequest k) n asked → Accepted c n (m .line) → by-turn.Turning (Ciphering c) (m .body) (turned q (m .body))
+        → Row a m (settles (decided p2 (serve q (wrap (a .ak) (Ciphering c) (headIn a) (dedicatedTag k)) (advanced c (accepted c n (m .line)))) m))
+    unfolding seal around taken accepting
+    row-inside Han k q n i o w (by-turn.grants e) = rw e (grantsInside q o w i)
+    row-inside Han k q n i o w (by-turn.denies {forgets} e b d) =
+        rw (e, b) (row-next 13 _ _ (settled-denied forgets (advanced Han (accepted Han n (m .line))) m s refl) (denialInside o w d))
+
+    row-disproved : (c : CipherClient) (invoke n : ℕ) {asked : List ℕ} → Brings a (m .line) c GlobalAction n asked → Accepted c n (m .line)
+        → Row a m (settles (decided p2 (decision (disproved (m .line) (secretsOf a) c (headIn a) invoke n)) m))
+    unfolding disproved taken accepting
+    row-disproved Han invoke n o w = wrongProof invoke o w
+
+    row-leaf : {r : Ruling} → by.Leaf (m .line) a r → Row a m (settles (decided p2 (decision r) m))
+    unfolding acceptedPlain acceptedCiphered proved requested
+    row-leaf (by.unheard t h) = row-stays _ _ (row-unheard (frame-number t) h)
+    row-leaf (by.rejects t h first) = row-stays _ _ (row-rejected (frame-number t) h)
+    row-leaf (by.noLink t from e) = rw e (row-stays 10 _ noLink)
+    row-leaf (by.goesUp c from p) = links _
+    row-leaf (by.goesDown c from up) = links _
+    row-leaf (by.excepts t n r x) = rw n (row-stays 12 _ (exception (plain r x)))
+    row-leaf (by.departs c t) = row-stays 11 _ (notAccepted c t)
+    row-leaf (by.associatesPlain proposed t) = tells _ _
+    row-leaf (by.begins c client key proposed n t) = tells _ _
+    row-leaf (by.releases c t) = tells _ _
+    row-leaf (by.serves q t e) =
+        let r = requested Verification (selectiveIn Verification (m .line)) (blocksIn Verification (m .line)) (apduIn a) q in
+        row-served r refl t (by-turn.turning r (m .body))
+    row-leaf (by.goesOn i n t b) = absurd (no-blocks-of-v m s b)
+    row-leaf (by.unopened t) = row-stays 6 _ (refuses 6 refl)
+    row-leaf (by.drops c o w) = drops o w
+    row-leaf (by.exceptsInside t c {n = k} n o w x) = rw n (row-next 12 _ _ (settled-same (accepted c k (m .line)) m s (counted-same c k (m .line))) (exception (inside o w x)))
+    row-leaf (by.proves c invoke n o w) = tells _ _
+    row-leaf (by.disproves c invoke n o w) = row-disproved c invoke n o w
+    row-leaf (by.servesInside c k {n} {text} q o w e) =
+        let r = requested (Ciphering c) (selectiveIn (Ciphering c) (m .line)) (blocksIn (Ciphering c) (m .line)) text q in
+        row-inside c k (ask r) n (its r refl) o w (by-turn.turning r (m .body))
+    row-leaf (by.goesOnInside c k {n} i j o w e b) = row-inside c k (goOn i j) n (next i j b) o w (turning-of c)
+      where
+        turning-of : (c : CipherClient) → by-turn.Turning (Ciphering c) (m .body) (turned (goOn i j) (m .body))
+        turning-of Han = by-turn.next-turning i j (m .body)
 
   -- refusals 1 and 2, and then 3, come before the frame
-  pub row-lent : (P : Outcome → Type 0) → P (refused 1 m) → P (refused 2 m) → P (refused 3 m) → (lentRefusal a ≡ 0 → sound m ≡ true → P (decided p2 (decision (ruled (m .line) a)) m)) → P (outcome a m)
+  pub row-lent : (P : Outcome → Type 0) → P (refused 1 m) → P (refused 2 m) → P (refused 3 m) → (lentRefusal a ≡ 0 → sound m ≡ true → P (settles (decided p2 (decision (ruled (m .line) a)) m))) → P (outcome a m)
   unfolding step act lentRefusal decide
   row-lent P one two three p =
       go (ltb (a .room) (replyRoom longestSent)) (not (eqb (length (a .guk)) 16)) (not (eqb (length (a .ak)) 16)) (not (eqb (length (a .challenge)) 8)) (sound m) refl p
     where
-      go : (w x y z s : Bool) → sound m ≡ s → (_≡_ {A = ℕ} (cond w 1 (cond x 2 (cond y 2 (cond z 2 0)))) 0 → sound m ≡ true → P (decided p2 (decision (ruled (m .line) a)) m))
-          → P (cond (eqb (cond w 1 (cond x 2 (cond y 2 (cond z 2 0)))) 0) (cond s (decided p2 (decision (ruled (m .line) a)) m) (refused 3 m)) (refused (cond w 1 (cond x 2 (cond y 2 (cond z 2 0)))) m))
+      go : (w x y z s : Bool) → sound m ≡ s → (_≡_ {A = ℕ} (cond w 1 (cond x 2 (cond y 2 (cond z 2 0)))) 0 → sound m ≡ true → P (settles (decided p2 (decision (ruled (m .line) a)) m)))
+          → P (cond (eqb (cond w 1 (cond x 2 (cond y 2 (cond z 2 0)))) 0) (cond s (settles (decided p2 (decision (ruled (m .line) a)) m)) (refused 3 m)) (refused (cond w 1 (cond x 2 (cond y 2 (cond z 2 0)))) m))
       go true x y z s e k = one
       go false true y z s e k = two
       go false false true z s e k = two
@@ -107,7 +125,7 @@ module _ (a : Lent) (m : Model) where
       go false false false false false e k = three
 
 pub rows-hold : RowsHold
-rows-hold a m = row-lent a m (Row a m) (refuses 1 refl) (refuses 2 refl) (refuses 3 refl) (λ _ _. row-leaf a m (by.leaf (m .line) a))
+rows-hold a m = row-lent a m (Row a m) (refuses 1 refl) (refuses 2 refl) (refuses 3 refl) (λ _ s. row-leaf a m s (by.leaf (m .line) a))
 
 -- The cells.
 
@@ -195,7 +213,7 @@ module _ (a : Lent) (m : Model) where
   accepted-row (grantsInside q o w c) e = absurd (omega arith)
 
   -- a frame has one sender
-  one-sender : {A : Type 0} (c : CipherClient) → SentBy Verification a → SentBy (Ciphering c) a → A
+  pub one-sender : {A : Type 0} (c : CipherClient) → SentBy Verification a → SentBy (Ciphering c) a → A
   one-sender Han v h = absurd (omega arith)
 
   same-sender : (c d : CipherClient) → SentBy (Ciphering c) a → SentBy (Ciphering d) a → d ≡ c
@@ -218,18 +236,27 @@ module _ (a : Lent) (m : Model) where
   plain-row (grants q t c) v e = absurd (false≢true e)
   plain-row (grantsInside q o w c) v e = absurd (false≢true e)
 
-  denied-row : {o : Outcome} → Row a m o → o .refusal ≡ 13 → o .next .body ≡ m .body
-  denied-row (refuses n k) e = refl
-  denied-row (drops o w) e = refl
-  denied-row overLength e = refl
-  denied-row badFrame e = refl
-  denied-row noLink e = refl
-  denied-row (notAccepted c t) e = refl
-  denied-row (exception (plain r x)) e = refl
-  denied-row (exception (inside o w x)) e = refl
-  denied-row (denial t d) e = refl
-  denied-row (denialInside o w d) e = refl
-  denied-row (wrongProof invoke o w) e = refl
+  -- settling keeps the transfer or forgets it
+  kept-or-not : (b : Bool) → (withTransfer (cond b (m .body .transfer) idle) (m .body) ≡ m .body) ⊎ (withTransfer (cond b (m .body .transfer) idle) (m .body) ≡ withTransfer idle (m .body))
+  kept-or-not true = inl refl
+  kept-or-not false = inr refl
+
+  forgotten-or-not : (forgets : Bool) → (afterDenial forgets (m .body) ≡ m .body) ⊎ (afterDenial forgets (m .body) ≡ withTransfer idle (m .body))
+  forgotten-or-not true = inr refl
+  forgotten-or-not false = inl refl
+
+  denied-row : {o : Outcome} → Row a m o → o .refusal ≡ 13 → (o .next .body ≡ m .body) ⊎ (o .next .body ≡ withTransfer idle (m .body))
+  denied-row (refuses n k) e = inl refl
+  denied-row (drops o w) e = absurd (omega arith)
+  denied-row overLength e = inl refl
+  denied-row badFrame e = inl refl
+  denied-row noLink e = inl refl
+  denied-row (notAccepted c t) e = inl refl
+  denied-row (exception (plain r x)) e = inl refl
+  denied-row (exception (inside o w x)) e = inl refl
+  denied-row (denial t d) e = inl refl
+  denied-row (denialInside {forgets = f} o w d) e = forgotten-or-not f
+  denied-row (wrongProof invoke {c} {n} o w) e = kept-or-not (allowed (advanced c (accepted c n (associates (Ciphering c) none (m .line)))) (m .body .transfer))
   denied-row (links after) e = absurd (omega arith)
   denied-row (tells bs after) e = absurd (omega arith)
   denied-row (grants q t c) e = absurd (omega arith)

@@ -18,11 +18,11 @@ use Rattle.model.specs.declared.Clock.{Clock}
 use Rattle.model.specs.Limits.{longestSent, longestReceived, apduRoom, textRoom, greatestApdu, envelopeLength, dataRoom, maxRows}
 use Rattle.model.specs.Clocks.{februaryDays, daysIn, realDate, realTime, fixedBytes, validClock}
 use Rattle.model.specs.Periods.{captureDue}
-use Rattle.model.specs.State.{Line, Entry, Body, Model, noCounters, newClock, newMeter}
+use Rattle.model.specs.State.{Line, Entry, idle, Body, withTransfer, Model, noCounters, newClock, newMeter}
 use Rattle.model.specs.Soundness.{sound}
 use Rattle.model.specs.Selecting.{described}
-use Rattle.model.specs.Objects.{Turn, granted, rowData, rowsData, attributeData, fitting, attributeRead, getAnswer, turned}
-use Rattle.model.specs.Calls.{Lent, owner, tick, Outcome, captured, step}
+use Rattle.model.specs.Objects.{ask, Turn, granted, rowData, rowsData, attributeData, fitting, attributeRead, getAnswer, turned}
+use Rattle.model.specs.Calls.{Lent, owner, tick, Outcome, settled, captured, step}
 use Rattle.model.specs.Archive.{rowsOf}
 use Rattle.model.proofs.LimitFacts.{apdu-room, data-room}
 use Rattle.hdlc.specs.declared.Head.{Head}
@@ -43,22 +43,24 @@ use Rattle.envelope.proofs.ShapeLaws.{longest-apdu}
 use Rattle.envelope.proofs.CloseLaws.{length-envelope, envelope-size, envelope-fits}
 use Rattle.envelope.proofs.RoundTrip.{opens-closed}
 use Rattle.meter.proofs.SameSecond.{afterDue, due-step, two-more, two-rows}
-use Rattle.protocol.specs.Clients.{ciphering, counters, selectiveIn, dedicatedKeys}
+use Rattle.protocol.specs.Clients.{ciphering, counters, selectiveIn, blocksIn, dedicatedKeys}
 use Rattle.protocol.specs.Rulings.{asks}
 use Rattle.protocol.specs.Decide.{accepted, advanced, p2}
-use Rattle.protocol.specs.Outcomes.{outcome, headIn, apduOf, toH}
+use Rattle.protocol.specs.Outcomes.{outcome, headIn, apduOf, replied, toH}
 use Rattle.protocol.specs.Lazy.{requestFrame, Asking, twice, bothRows, getProfile, SecondRowRead, SecondRowHappens}
 use Rattle.protocol.proofs.Claim.{p2-stays-sound}
 use Rattle.protocol.proofs.Turns.{read-fits}
+use Rattle.protocol.proofs.Settling.{settled-idle}
 use Rattle.protocol.proofs.Enclosed.{next-counter, profileAsked, profile-asked, someLine, someMeter, someLent, some-sound, some-sends}
 
 -- Both rows.
 
 -- the rows, where they fit
-profile-read : (selective : Bool) (invoke : ℕ) (b : Body) (rs : List Entry) → b .store .rows ≡ rs → length (rowsData rs) ≤ dataRoom longestSent
-    → turned (requested (Ciphering Han) selective (getProfile invoke) (profileAsked invoke)) b ≡ record { refusal = 0; bytes = getAnswer invoke (granted (rowsData rs)); body = b }
+profile-read : (selective blocks : Bool) (invoke : ℕ) (b : Body) (rs : List Entry) → b .store .rows ≡ rs → length (rowsData rs) ≤ dataRoom longestSent
+    → turned (ask (requested (Ciphering Han) selective blocks (getProfile invoke) (profileAsked invoke))) b
+    ≡ record { refusal = 0; bytes = getAnswer invoke (granted (rowsData rs)); body = withTransfer idle b }
 unfolding turned requested nameIn filled attributeRead attributeData described fitting sameBytes
-profile-read selective invoke b rs e h = rw (e, le-leb (length (rowsData rs)) (dataRoom longestSent) h)
+profile-read selective blocks invoke b rs e h = rw (e, le-leb (length (rowsData rs)) (dataRoom longestSent) h)
 
 module _ (t : Clock) (m : Model) (s : sound m ≡ true) (v : validClock t ≡ true) (d : captureDue (m .body .period) t ≡ true) where
   after-sound : sound (afterDue t m) ≡ true
@@ -123,16 +125,18 @@ second-row-answer : (a : Lent) (m : Model) (t : Clock) (counter invoke : ℕ) �
     ≡ record {
       refusal = 0;
       sent = toH a (m .line) Han 0xD0 (getAnswer invoke (granted (rowsData (bothRows t m))));
-      next = record { line = advanced Han (accepted Han counter (m .line)); body = twice t m .body };
+      next = record { line = advanced Han (accepted Han counter (m .line)); body = withTransfer idle (twice t m .body) };
     }
 unfolding afterDue
 second-row-answer a m t counter invoke s v d k fits =
     let n = afterDue t (afterDue t m) in
     let twice-sound : sound n ≡ true = after-sound t (afterDue t m) (after-sound t m s v d) v (still-due t m s v d) in
-    let read = profile-read (selectiveIn (Ciphering Han) (m .line)) invoke (n .body) (bothRows t m) (both-rows t m) fits in
+    let read = profile-read (selectiveIn (Ciphering Han) (m .line)) (blocksIn (Ciphering Han) (m .line)) invoke (n .body) (bothRows t m) (both-rows t m) fits in
+    let line = advanced Han (accepted Han counter (m .line)) in
     rw (twice-due t m s v d)
     (next-counter Han a n Get counter (getProfile invoke) (profileAsked invoke) twice-sound k (profile-asked invoke)
-    ∙ ap (λ (x : Turn). record { refusal = x .refusal; sent = toH a (m .line) Han 0xD0 (x .bytes); next = record { line = advanced Han (accepted Han counter (m .line)); body = x .body } }) read)
+    ∙ ap (λ (x : Turn). record { refusal = x .refusal; sent = toH a (m .line) Han 0xD0 (x .bytes); next = settled (record { line = line; body = x .body }) }) read
+    ∙ ap (replied 0 (toH a (m .line) Han 0xD0 (getAnswer invoke (granted (rowsData (bothRows t m)))))) (settled-idle line (n .body)))
 
 pub second-row-read : SecondRowRead
 second-row-read a m t counter invoke s v d k fits =

@@ -11,7 +11,7 @@ use Rattle.model.specs.declared.Clock.{Clock}
 use Rattle.model.specs.Limits.{longestSent, dataRoom}
 use Rattle.model.specs.Clocks.{inRange}
 use Rattle.model.specs.Selecting.{rangeDescriptor, goodRange}
-use Rattle.model.specs.State.{Entry, Model}
+use Rattle.model.specs.State.{Entry, idle, withTransfer, Model}
 use Rattle.model.specs.Soundness.{sound}
 use Rattle.model.specs.Objects.{granted, rowsData, getAnswer}
 use Rattle.model.specs.Calls.{Lent}
@@ -47,7 +47,7 @@ pub record DatedRead (a : Lent) (m : Model) (counter invoke : ℕ) (rs : List En
       ≡ record {
         refusal = 0;
         sent = toH a (m .line) Han 0xD0 (getAnswer invoke (granted (rowsData rs)));
-        next = record { line = advanced Han (accepted Han counter (m .line)); body = m .body };
+        next = record { line = advanced Han (accepted Han counter (m .line)); body = withTransfer idle (m .body) };
       }
   pub found :
       opened (requestKeys Han a (m .line)) (m .line .title) 0xD4 (apduOf (outcome a m .sent))

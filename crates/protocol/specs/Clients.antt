@@ -5,7 +5,7 @@ use mathlib.Core.List.{List}
 use Prim.Native.Nat.{ℕ}
 use Rattle.model.specs.declared.Client.{Client}
 use Rattle.model.specs.declared.CipherClient.{CipherClient}
-use Rattle.model.specs.Services.{within, getService, actionService, selectiveAccess}
+use Rattle.model.specs.Services.{within, getService, actionService, selectiveAccess, blockTransfer}
 use Rattle.model.specs.State.{Association, none, pending, associated, Line}
 use Rattle.model.specs.Soundness.{isNone}
 use Rattle.cosem.specs.declared.Tag.{Tag}
@@ -20,6 +20,10 @@ use Rattle.protocol.specs.declared.Secrets.{Secrets}
 
 abbrev pub selectiveIn : Client → Line → Bool
 selectiveIn c l = within selectiveAccess (agreedIn (peer c l .association))
+
+-- document 02, Q-4: "get with block transfer, offered to H by its service bit"
+abbrev pub blocksIn : Client → Line → Bool
+blocksIn c l = within blockTransfer (agreedIn (peer c l .association))
 
 -- The keys of a client that ciphers.
 

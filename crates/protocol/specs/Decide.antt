@@ -1,6 +1,6 @@
 -- `decide` and `seal` of document 01: the tests of a frame on a sound meter in its order, what goes out, and the line
--- afterwards ("The frame", "The association", "The envelope and its counters", "What goes out"). It sees the line and what is
--- lent, and never the body: a request that passes every test is handed to it.
+-- afterwards ("The frame", "The association", "The envelope and its counters", "What goes out"; document 02, Q-4, numbered
+-- requests). It sees the line and what is lent, and never the body: a request that passes every test is handed to it.
 use mathlib.Core.Bool.{Bool, true, false, cond, not, _&&_}
 use mathlib.Core.List.{List, [], _++_}
 use Prim.Native.Nat.{ℕ}
@@ -12,7 +12,7 @@ use Rattle.model.specs.declared.Client.the-variants.{Verification, Ciphering}
 use Rattle.model.specs.Names.{sameName}
 use Rattle.model.specs.Services.{offered, common}
 use Rattle.model.specs.State.{none, pending, associated, Line}
-use Rattle.model.specs.Objects.{challengeOf, actionAnswer, denied}
+use Rattle.model.specs.Objects.{challengeOf, actionAnswer, denied, Inquiry, ask, goOn}
 use Rattle.model.specs.Calls.{Lent, Wrap, Decision, Protocol}
 use Rattle.wire.specs.Reading.{part}
 use Rattle.hdlc.specs.declared.Head.{Head}
@@ -28,7 +28,7 @@ use Rattle.cosem.specs.declared.Wanted.{Wanted}
 use Rattle.cosem.specs.declared.Wanted.the-variants.{Read, ReadSelected, Invoke, InvokeWith}
 use Rattle.cosem.specs.declared.Asked.{Asked}
 use Rattle.cosem.specs.declared.Reading.{Reading}
-use Rattle.cosem.specs.declared.Reading.the-variants.{Asks, Malformed}
+use Rattle.cosem.specs.declared.Reading.the-variants.{Asks, GoesOn, Malformed}
 use Rattle.cosem.specs.declared.Exception.the-variants.{ServiceNotAllowed, ServiceUnknown}
 use Rattle.cosem.specs.Tags.{dedicatedTag, answerTag, tagIn, isRelease, releaseResponse, exceptionBytes}
 use Rattle.cosem.specs.Requests.{readAction, readService, nameIn, requested}
@@ -44,7 +44,7 @@ use Rattle.counters.specs.Window.{inWindow, accepting}
 use Rattle.envelope.specs.Opening.{Opened, fails, opens, opened}
 use Rattle.envelope.specs.Challenge.{rightProof}
 use Rattle.protocol.specs.declared.Secrets.{Secrets}
-use Rattle.protocol.specs.Clients.{ciphering, peer, withPeer, linked, associates, counters, withCounters, held, agreedIn, keyIn, clientChallenge, meterChallenge, selectiveIn, lentKeys, dedicatedKeys, permitted, bitAgreed, isUnknown}
+use Rattle.protocol.specs.Clients.{ciphering, peer, withPeer, linked, associates, counters, withCounters, held, agreedIn, keyIn, clientChallenge, meterChallenge, selectiveIn, blocksIn, lentKeys, dedicatedKeys, permitted, bitAgreed, isUnknown}
 use Rattle.protocol.specs.Rulings.{Text, none as noTest, frame, linkUpWithInformation, p5HoldsV, linkDownWhileDown, dataWhileDown, unknownTag, tagNotPermitted, bitNotAgreed, envelopeUnopened, outsideWindow, notTheChallenge, wrongProof, plain, proof, Envelope, closed, nothing, ua, dm, reject, apdu, encloses, Ruling, says, asks, refusedAarq, refusedMalformed, decision}
 
 -- Links.
@@ -123,10 +123,20 @@ released l c h s =
 abbrev pub wrap : (ak : List ℕ) → Client → Head → ℕ → Wrap
 wrap ak c h tag = record { destination = h .source; source = h .destination; client = c; tag = tag; ak = ak }
 
+-- the request of a client, with what was agreed
+abbrev pub requestOf : Line → Client → List ℕ → Asked → Inquiry
+requestOf l c s q = ask (requested c (selectiveIn c l) (blocksIn c l) s q)
+
+-- a numbered request; "without the bit it stays malformed"
+abbrev pub numbered : Line → Client → (malformed goesOn : Ruling) → Ruling
+numbered l c malformed goesOn = cond (blocksIn c l) goesOn malformed
+
 -- a plain request
 abbrev pub asked : Line → Secrets → Client → Head → List ℕ → Reading → Ruling
 asked l a c h s Malformed = refusedMalformed h l
-asked l a c h s (Asks q) = asks (requested c (selectiveIn c l) s q) (wrap (a .ak) Verification h 0xC0) l
+asked l a c h s (Asks q) = asks (requestOf l c s q) (wrap (a .ak) Verification h 0xC0) l
+-- V is not offered the bit, so that on a sound line its numbered request is malformed
+asked l a c h s (GoesOn i n) = numbered l c (refusedMalformed h l) (asks (goOn i n) (wrap (a .ak) Verification h 0xC0) l)
 
 -- the line after an envelope's counter has become the last accepted, and after the meter's own has gone on besides
 abbrev pub accepted : CipherClient → ℕ → Line → Line
@@ -139,7 +149,10 @@ advanced c l = withCounters c (taken (counters c l) .counters) l
 abbrev pub askedInside : Line → Secrets → CipherClient → Head → ServiceKind → (counter : ℕ) → List ℕ → Reading → Ruling
 askedInside l a c h k counter text Malformed = refusedMalformed h (accepted c counter l)
 askedInside l a c h k counter text (Asks q) =
-    asks (requested (Ciphering c) (selectiveIn (Ciphering c) l) text q) (wrap (a .ak) (Ciphering c) h (dedicatedTag k)) (advanced c (accepted c counter l))
+    asks (requestOf l (Ciphering c) text q) (wrap (a .ak) (Ciphering c) h (dedicatedTag k)) (advanced c (accepted c counter l))
+askedInside l a c h k counter text (GoesOn i n) =
+    numbered l (Ciphering c) (refusedMalformed h (accepted c counter l))
+    (asks (goOn i n) (wrap (a .ak) (Ciphering c) h (dedicatedTag k)) (advanced c (accepted c counter l)))
 
 -- The challenge.
 
@@ -192,6 +205,8 @@ challenged l a c h counter text q =
 abbrev pub answeredChallenge : Line → Secrets → CipherClient → Head → (counter : ℕ) → List ℕ → Reading → Ruling
 answeredChallenge l a c h counter text Malformed = refusedMalformed h (accepted c counter l)
 answeredChallenge l a c h counter text (Asks q) = challenged l a c h counter text q
+-- never reached: an ACTION is no numbered request
+answeredChallenge l a c h counter text (GoesOn i n) = refusedMalformed h (accepted c counter l)
 
 -- Envelopes of a client that ciphers.
 

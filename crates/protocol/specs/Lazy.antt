@@ -19,10 +19,10 @@ use Rattle.model.specs.Limits.{longestSent, longestReceived, replyRoom, envelop
 use Rattle.model.specs.Clocks.{validClock}
 use Rattle.model.specs.Periods.{captureDue}
 use Rattle.model.specs.Services.{offered, common}
-use Rattle.model.specs.State.{none, pending, associated, Line, Model, Entry, newMeter}
+use Rattle.model.specs.State.{none, pending, associated, Line, idle, withTransfer, Model, withBody, Entry, newMeter}
 use Rattle.model.specs.Soundness.{sound}
-use Rattle.model.specs.Objects.{denied, granted, rowsData, getAnswer, actionAnswer, turned}
-use Rattle.model.specs.Calls.{Lent, owner, tick, Outcome, step}
+use Rattle.model.specs.Objects.{Inquiry, denied, granted, rowsData, getAnswer, actionAnswer, turned}
+use Rattle.model.specs.Calls.{Lent, owner, tick, Outcome, settled, step}
 use Rattle.model.specs.Archive.{rowsOf, dueRow}
 use Rattle.hdlc.specs.declared.Head.{Head}
 use Rattle.hdlc.specs.declared.Frame.the-variants.{LinkUp}
@@ -37,7 +37,7 @@ use Rattle.cosem.specs.declared.Tag.the-variants.{DedicatedRequest}
 use Rattle.cosem.specs.declared.ServiceKind.{ServiceKind}
 use Rattle.cosem.specs.declared.ServiceKind.the-variants.{Get}
 use Rattle.cosem.specs.Tags.{dedicatedTag}
-use Rattle.cosem.specs.Requests.{readService, requested}
+use Rattle.cosem.specs.Requests.{readService}
 use Rattle.acse.specs.Clients.{plainContext, cipheredContext, noSecurity, gmacSecurity}
 use Rattle.acse.specs.Initiate.{initiateResponse}
 use Rattle.acse.specs.Aare.{plainAare, cipheredAareHead}
@@ -48,11 +48,11 @@ use Rattle.envelope.specs.Layout.{sealedEnvelope}
 use Rattle.envelope.specs.Opening.{opens, opened}
 use Rattle.envelope.specs.Challenge.{proofValue}
 use Rattle.meter.specs.SameSecond.{nextRow}
-use Rattle.protocol.specs.Clients.{ciphering, held, peer, withPeer, linked, associates, counters, withCounters, keyIn, selectiveIn}
+use Rattle.protocol.specs.Clients.{ciphering, held, peer, withPeer, linked, associates, counters, withCounters, keyIn}
 use Rattle.protocol.specs.Rulings.{provedText}
-use Rattle.protocol.specs.Decide.{accepted, advanced, p2}
+use Rattle.protocol.specs.Decide.{requestOf, accepted, advanced, p2}
 use Rattle.protocol.specs.Examples.{linkUpFrame}
-use Rattle.protocol.specs.Outcomes.{outcome, headIn, apduOf, said, MaySend, toH}
+use Rattle.protocol.specs.Outcomes.{outcome, headIn, apduOf, replied, said, MaySend, toH}
 
 -- enough is lent: neither "reply room below 779", nor "lent GUK or AK not 16 bytes, or challenge not 8"
 pub record Enough (a : Lent) : Type 0 where
@@ -120,7 +120,7 @@ HeldOff =
     → m .line .p5 ≡ true
     → Enough link
     → LinksUp Verification link
-    → outcome link m ≡ said 10 (dmFrame (headIn link)) (m .line) m
+    → outcome link m ≡ replied 10 (dmFrame (headIn link)) m
 
 -- and on a new one an AARQ is let in, by the frame of marked example 2
 abbrev pub NewMeterLetsIn : Type 0
@@ -225,6 +225,10 @@ pub record Enters (c : CipherClient) (title : List ℕ) (e : Entrance) (link aar
       (sealedEnvelope (entranceKeys proof) title 0xCB (e .outer)
       (proofAction c (e .invoke) (proofValue (entranceKeys proof) title (aarq .challenge) (e .inner))))
 
+-- a meter without a transfer: that of H ended with the association before
+abbrev pub withoutTransfer : Model → Model
+withoutTransfer m = withBody (withTransfer idle (m .body)) m
+
 -- each is accepted. The AARE's envelope goes out under the meter's counter plus one, and the client is pending; the meter's proof goes out
 -- under the next, its envelope under the one after, and the client is associated with the services agreed and its key.
 pub record LetInCiphering (c : CipherClient) (m : Model) (e : Entrance) (link aarq proof : Lent) : Type 0 where
@@ -239,7 +243,7 @@ pub record LetInCiphering (c : CipherClient) (m : Model) (e : Entrance) (link aa
       ++ sealedEnvelope (entranceKeys aarq) (m .line .title) 0x28 (nextCounter sent) (initiateResponse agreed)))
       (withCounters c (record { accepted = e .first; sent = nextCounter sent })
       (associates (Ciphering c) (pending agreed (e .key) (e .challenge) (aarq .challenge)) (up (Ciphering c) (m .line))))
-      m)
+      (withoutTransfer m))
   pub third :
       outcome proof (outcome aarq (outcome link m .next) .next)
       ≡ (let number = nextCounter (nextCounter (counters c (m .line) .sent)) in
@@ -249,7 +253,7 @@ pub record LetInCiphering (c : CipherClient) (m : Model) (e : Entrance) (link aa
       (sealedEnvelope keys (m .line .title) 0xCF (nextCounter number) (provedText keys (m .line .title) (e .challenge) (e .invoke) number)))
       (withCounters c (record { accepted = e .outer; sent = nextCounter number })
       (associates (Ciphering c) (associated (common (e .services) (offered (Ciphering c))) (e .key)) (up (Ciphering c) (m .line))))
-      m)
+      (withoutTransfer m))
 
 abbrev pub CipheringLetIn : Type 0
 CipheringLetIn =
@@ -311,14 +315,18 @@ pub record Asking (c : CipherClient) (a : Lent) (l : Line) (k : ServiceKind) (co
   pub window : StepsInside (counters c l .accepted) counter
 
 -- the body's answer, sealed under the meter's counter plus one, which the line then holds beside the client's
-abbrev pub answerTo : CipherClient → Lent → Model → ServiceKind → (counter : ℕ) → (text : List ℕ) → Asked → Outcome
-answerTo c a m k counter text q =
-    let t = turned (requested (Ciphering c) (selectiveIn (Ciphering c) (m .line)) text q) (m .body) in
+abbrev pub answerOf : CipherClient → Lent → Model → ServiceKind → (counter : ℕ) → Inquiry → Outcome
+answerOf c a m k counter q =
+    let t = turned q (m .body) in
     record {
       refusal = t .refusal;
       sent = toH a (m .line) c (dedicatedTag k) (t .bytes);
-      next = record { line = advanced c (accepted c counter (m .line)); body = t .body };
+      next = settled (record { line = advanced c (accepted c counter (m .line)); body = t .body });
     }
+
+-- to a request
+abbrev pub answerTo : CipherClient → Lent → Model → ServiceKind → (counter : ℕ) → (text : List ℕ) → Asked → Outcome
+answerTo c a m k counter text q = answerOf c a m k counter (requestOf (m .line) (Ciphering c) text q)
 
 abbrev pub NextCounter : Type 0
 NextCounter =
@@ -389,7 +397,7 @@ pub record RowsRead (a : Lent) (m : Model) (t : Clock) (counter invoke : ℕ) : 
       ≡ record {
         refusal = 0;
         sent = toH a (m .line) Han 0xD0 (getAnswer invoke (granted (rowsData (bothRows t m))));
-        next = record { line = advanced Han (accepted Han counter (m .line)); body = twice t m .body };
+        next = record { line = advanced Han (accepted Han counter (m .line)); body = withTransfer idle (twice t m .body) };
       }
   pub found :
       opened (requestKeys Han a (m .line)) (m .line .title) 0xD4 (apduOf (outcome a (twice t m) .sent))

@@ -6,3 +6,4 @@ pub mod Claim
 pub mod Outcomes
 pub mod Lazy
 pub mod ByDate
+pub mod InBlocks

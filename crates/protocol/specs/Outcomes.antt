@@ -4,7 +4,8 @@
 -- which exception goes out; what a client may send when is told here apart from `Decide` (`MaySend`). `Answers` alone asks something of the meter: that its own title, which an AARE holds, has its 8 bytes; a longer one would
 -- not fit the frame. Proved in proofs/Outcomes and proofs/Framed, by proofs/Leaves.
 use mathlib.Core.Path.{_≡_}
-use mathlib.Core.Bool.{true, false}
+use mathlib.Core.Bool.{Bool, true, false, cond}
+use mathlib.Core.Logic.{_⊎_}
 use mathlib.Core.List.{List, [], _∷_}
 use Prim.Native.Nat.{ℕ, _-_, _≤_}
 use lib.ListN.{length, take}
@@ -14,10 +15,10 @@ use Rattle.model.specs.declared.CipherClient.{CipherClient}
 use Rattle.model.specs.declared.Client.the-variants.{Verification, Ciphering}
 use Rattle.model.specs.Limits.{longestSent, replyRoom}
 use Rattle.model.specs.Periods.{listed}
-use Rattle.model.specs.State.{Association, none, pending, associated, Line, Model, withLine}
+use Rattle.model.specs.State.{Association, none, pending, associated, Line, idle, Body, withTransfer, Model, withLine}
 use Rattle.model.specs.Services.{within, getService, actionService}
-use Rattle.model.specs.Objects.{Request, denied, getAnswer, actionAnswer, turned}
-use Rattle.model.specs.Calls.{Lent, frame, Outcome, refused, step}
+use Rattle.model.specs.Objects.{Request, Inquiry, ask, goOn, denied, getAnswer, blockRefused, actionAnswer, turned}
+use Rattle.model.specs.Calls.{Lent, frame, Outcome, refused, settled, step}
 use Rattle.model.specs.Archive.{numbers}
 use Rattle.hdlc.specs.declared.Head.{Head}
 use Rattle.hdlc.specs.Layout.{ui, frmr, byte, headOf}
@@ -29,17 +30,18 @@ use Rattle.cosem.specs.declared.Tag.the-variants.{Aarq, Rlrq, PlainRequest, Glo
 use Rattle.cosem.specs.declared.ServiceKind.{ServiceKind}
 use Rattle.cosem.specs.declared.ServiceKind.the-variants.{Get, Action}
 use Rattle.cosem.specs.declared.Asked.{Asked}
-use Rattle.cosem.specs.declared.Reading.the-variants.{Asks, Malformed}
+use Rattle.cosem.specs.declared.Reading.{Reading}
+use Rattle.cosem.specs.declared.Reading.the-variants.{Asks, GoesOn, Malformed}
 use Rattle.cosem.specs.declared.Exception.{Exception}
 use Rattle.cosem.specs.declared.Exception.the-variants.{ServiceNotAllowed, ServiceUnknown}
 use Rattle.cosem.specs.Tags.{dedicatedTag, answerTag, tagIn, isRelease, exceptionBytes}
-use Rattle.cosem.specs.Requests.{readGet, readAction, readService}
+use Rattle.cosem.specs.Requests.{readAction, readService}
 use Rattle.acse.specs.Aare.{rejectedAare}
 use Rattle.counters.specs.Advance.{nextCounter}
 use Rattle.counters.specs.Window.{inWindow}
 use Rattle.envelope.specs.Layout.{sealedEnvelope}
 use Rattle.envelope.specs.Opening.{opens, opened}
-use Rattle.protocol.specs.Clients.{ciphering, peer, counters, associates, lentKeys, dedicatedKeys, isUnknown}
+use Rattle.protocol.specs.Clients.{ciphering, peer, counters, associates, lentKeys, dedicatedKeys, blocksIn, isUnknown}
 use Rattle.protocol.specs.Rulings.{Ruling}
 use Rattle.protocol.specs.Decide.{accepted, advanced, isChallenge, tested, secretsOf, p2}
 
@@ -125,6 +127,11 @@ Accepted c n l = inWindow (counters c l .accepted) n ≡ true
 abbrev pub Outside : CipherClient → ℕ → Line → Type 0
 Outside c n l = inWindow (counters c l .accepted) n ≡ false
 
+-- a request that is malformed: it cannot be read; or it is a numbered one and "without the bit it stays malformed"
+pub data Misshapen (l : Line) (c : Client) : Reading → Type 0 where
+  unreadable : Misshapen l c Malformed
+  numbered : {invoke number : ℕ} → blocksIn c l ≡ false → Misshapen l c (GoesOn invoke number)
+
 -- Exceptions: which goes out, and when. Each test stands here with those before it passed.
 
 pub data Excepted (a : Lent) (l : Line) (c : Client) : Exception → Type 0 where
@@ -134,32 +141,42 @@ pub data Excepted (a : Lent) (l : Line) (c : Client) : Exception → Type 0 wher
   notAllowed : isUnknown (tagSent a) ≡ false → (MaySend c (peer c l .association) (tagSent a) → ⊥) → Excepted a l c ServiceNotAllowed
   -- "then a malformed APDU other than an AARQ, D8 02 02"
   malformedRelease : Timely a l c Rlrq → isRelease (apduIn a) ≡ false → Excepted a l c ServiceUnknown
-  malformedGet : Timely a l c (PlainRequest Get) → readGet (apduIn a) ≡ Malformed → Excepted a l c ServiceUnknown
+  malformedGet : Timely a l c (PlainRequest Get) → Misshapen l c (readService Get (apduIn a)) → Excepted a l c ServiceUnknown
 
 -- by the text of an envelope that opened with this tag
-pub data ExceptedInside (c : CipherClient) (text : List ℕ) : Tag → Exception → Type 0 where
-  malformedProof : readAction text ≡ Malformed → ExceptedInside c text GlobalAction ServiceUnknown
-  malformedRequest : {k : ServiceKind} → readService k text ≡ Malformed → ExceptedInside c text (DedicatedRequest k) ServiceUnknown
+pub data ExceptedInside (l : Line) (c : CipherClient) (text : List ℕ) : Tag → Exception → Type 0 where
+  malformedProof : readAction text ≡ Malformed → ExceptedInside l c text GlobalAction ServiceUnknown
+  malformedRequest : {k : ServiceKind} → Misshapen l (Ciphering c) (readService k text) → ExceptedInside l c text (DedicatedRequest k) ServiceUnknown
   -- "then, while pending, an ACTION other than the challenge's, D8 01 01"
-  notTheChallenge : (q : Asked) → readAction text ≡ Asks q → isChallenge c text q ≡ false → ExceptedInside c text GlobalAction ServiceNotAllowed
+  notTheChallenge : (q : Asked) → readAction text ≡ Asks q → isChallenge c text q ≡ false → ExceptedInside l c text GlobalAction ServiceNotAllowed
 
 -- 12: what goes out, and the meter afterwards: "an opened envelope's counter becomes the last accepted", and nothing else
 pub data Excepting (a : Lent) (m : Model) : List ℕ → Model → Type 0 where
   plain : {c : Client} {e : Exception} → Reaches a (m .line) c → Excepted a (m .line) c e
       → Excepting a m (apduFrame (headIn a) (exceptionBytes e)) m
-  inside : {c : CipherClient} {t : Tag} {n : ℕ} {text : List ℕ} {e : Exception} → Brings a (m .line) c t n text → Accepted c n (m .line) → ExceptedInside c text t e
+  inside : {c : CipherClient} {t : Tag} {n : ℕ} {text : List ℕ} {e : Exception} → Brings a (m .line) c t n text → Accepted c n (m .line) → ExceptedInside (m .line) c text t e
       → Excepting a m (apduFrame (headIn a) (exceptionBytes e)) (withLine (accepted c n (m .line)) m)
 
 -- The rows.
 
--- a number, what goes out, and the line afterwards; the body is as it was
-abbrev pub said : ℕ → List ℕ → Line → Model → Outcome
-said n bs l m = record { refusal = n; sent = bs; next = withLine l m }
+-- a number, what goes out, and the meter afterwards
+abbrev pub replied : ℕ → List ℕ → Model → Outcome
+replied n bs after = record { refusal = n; sent = bs; next = after }
 
--- the answer to a denied request: "result code"
-pub data Denial : List ℕ → Type 0 where
-  read : (invoke code : ℕ) → Denial (getAnswer invoke (denied code))
-  action : (invoke code : ℕ) → Denial (actionAnswer invoke (denied code))
+-- a number, what goes out, and the line afterwards; the body is as it was, but that the end of H's association forgets its transfer
+-- (`settled`)
+abbrev pub said : ℕ → List ℕ → Line → Model → Outcome
+said n bs l m = record { refusal = n; sent = bs; next = settled (withLine l m) }
+
+-- the answer to a denied request, "result code", and whether it forgets a transfer of the client: a read does, and so does a numbered
+-- request; an action does not
+pub data Denial : List ℕ → (forgets : Bool) → Type 0 where
+  read : (invoke code : ℕ) → Denial (getAnswer invoke (denied code)) true
+  action : (invoke code : ℕ) → Denial (actionAnswer invoke (denied code)) false
+  block : (invoke number code : ℕ) → Denial (blockRefused invoke number code) true
+
+abbrev pub afterDenial : (forgets : Bool) → Body → Body
+afterDenial forgets b = cond forgets (withTransfer idle b) b
 
 -- what goes out around an answer to V's request, and around one to a ciphering client's with this tag: in an envelope, of which the
 -- meter's counter plus one is the counter
@@ -170,6 +187,11 @@ abbrev pub toH : Lent → Line → CipherClient → (tag : ℕ) → List ℕ →
 toH a l c tag text =
     apduFrame (headIn a) (sealedEnvelope (dedicatedKeys (a .ak) c l) (l .title) (answerTag tag) (nextCounter (counters c l .sent)) text)
 
+-- what a client that ciphers may ask the body: its own requests; and a numbered request, where block transfer was agreed
+pub data InquiryOf (c : CipherClient) (l : Line) : Inquiry → Type 0 where
+  its : (q : Request) → q .client ≡ Ciphering c → InquiryOf c l (ask q)
+  next : (invoke number : ℕ) → blocksIn (Ciphering c) l ≡ true → InquiryOf c l (goOn invoke number)
+
 pub data Row (a : Lent) (m : Model) : Outcome → Type 0 where
   -- 1 to 6: both cells are empty
   refuses : (n : ℕ) → listed n (1 ∷ 2 ∷ 3 ∷ 4 ∷ 5 ∷ 6 ∷ []) ≡ true → Row a m (refused n m)
@@ -177,19 +199,23 @@ pub data Row (a : Lent) (m : Model) : Outcome → Type 0 where
   drops : {c : CipherClient} {t : Tag} {n : ℕ} {asked : List ℕ} → Brings a (m .line) c t n asked → Outside c n (m .line)
       → Row a m (said 7 [] (associates (Ciphering c) none (m .line)) m)
   -- 8: "FRMR, code 0100"
-  overLength : Row a m (said 8 (replyFrame (headIn a) frmr (headIn a .control ∷ 0x00 ∷ 0x04 ∷ [])) (m .line) m)
+  overLength : Row a m (replied 8 (replyFrame (headIn a) frmr (headIn a .control ∷ 0x00 ∷ 0x04 ∷ [])) m)
   -- 9: "FRMR, code 0001"
-  badFrame : Row a m (said 9 (replyFrame (headIn a) frmr (headIn a .control ∷ 0x00 ∷ 0x01 ∷ [])) (m .line) m)
+  badFrame : Row a m (replied 9 (replyFrame (headIn a) frmr (headIn a .control ∷ 0x00 ∷ 0x01 ∷ [])) m)
   -- 10: "DM"
-  noLink : Row a m (said 10 (dmFrame (headIn a)) (m .line) m)
+  noLink : Row a m (replied 10 (dmFrame (headIn a)) m)
   -- 11: "AARE: result 1, diagnostic 13"
-  notAccepted : (c : Client) → Timely a (m .line) c Aarq → Row a m (said 11 (apduFrame (headIn a) (rejectedAare c)) (m .line) m)
+  notAccepted : (c : Client) → Timely a (m .line) c Aarq → Row a m (replied 11 (apduFrame (headIn a) (rejectedAare c)) m)
   -- 12: "exception"
-  exception : {bs : List ℕ} {after : Model} → Excepting a m bs after → Row a m (record { refusal = 12; sent = bs; next = after })
+  exception : {bs : List ℕ} {after : Model} → Excepting a m bs after → Row a m (replied 12 bs after)
   -- 13: "result code"; "for H, counters advance; a wrong proof ends the association"
-  denial : {text : List ℕ} → Timely a (m .line) Verification (PlainRequest Get) → Denial text → Row a m (said 13 (toV a text) (m .line) m)
-  denialInside : {c : CipherClient} {text asked : List ℕ} {k : ServiceKind} {n : ℕ} → Brings a (m .line) c (DedicatedRequest k) n asked → Accepted c n (m .line) → Denial text
-      → Row a m (said 13 (toH a (m .line) c (dedicatedTag k) text) (advanced c (accepted c n (m .line))) m)
+  denial : {text : List ℕ} {forgets : Bool} → Timely a (m .line) Verification (PlainRequest Get) → Denial text forgets → Row a m (replied 13 (toV a text) m)
+  denialInside : {c : CipherClient} {text asked : List ℕ} {forgets : Bool} {k : ServiceKind} {n : ℕ} → Brings a (m .line) c (DedicatedRequest k) n asked → Accepted c n (m .line) → Denial text forgets
+      → Row a m (record {
+        refusal = 13;
+        sent = toH a (m .line) c (dedicatedTag k) text;
+        next = record { line = advanced c (accepted c n (m .line)); body = afterDenial forgets (m .body) };
+      })
   wrongProof : (invoke : ℕ) {c : CipherClient} {n : ℕ} {asked : List ℕ} → Brings a (m .line) c GlobalAction n asked → Accepted c n (m .line)
       → Row a m (said 13
       (apduFrame (headIn a)
@@ -199,12 +225,12 @@ pub data Row (a : Lent) (m : Model) : Outcome → Type 0 where
   links : (after : Line) → Row a m (said 0 (uaFrame (headIn a)) after m)
   tells : (bs : List ℕ) (after : Line) → Row a m (said 0 (apduFrame (headIn a) bs) after m)
   grants : (q : Request) → Timely a (m .line) Verification (PlainRequest Get) → q .client ≡ Verification
-      → Row a m (record { refusal = 0; sent = toV a (turned q (m .body) .bytes); next = record { line = m .line; body = turned q (m .body) .body } })
-  grantsInside : {c : CipherClient} {k : ServiceKind} {n : ℕ} {asked : List ℕ} (q : Request) → Brings a (m .line) c (DedicatedRequest k) n asked → Accepted c n (m .line) → q .client ≡ Ciphering c
+      → Row a m (record { refusal = 0; sent = toV a (turned (ask q) (m .body) .bytes); next = settled (record { line = m .line; body = turned (ask q) (m .body) .body }) })
+  grantsInside : {c : CipherClient} {k : ServiceKind} {n : ℕ} {asked : List ℕ} (q : Inquiry) → Brings a (m .line) c (DedicatedRequest k) n asked → Accepted c n (m .line) → InquiryOf c (m .line) q
       → Row a m (record {
         refusal = 0;
         sent = toH a (m .line) c (dedicatedTag k) (turned q (m .body) .bytes);
-        next = record { line = advanced c (accepted c n (m .line)); body = turned q (m .body) .body };
+        next = settled (record { line = advanced c (accepted c n (m .line)); body = turned q (m .body) .body });
       })
 
 -- every frame call is one of the rows
@@ -231,8 +257,8 @@ keeping = 1 ∷ 2 ∷ 3 ∷ 4 ∷ 5 ∷ 6 ∷ 8 ∷ 9 ∷ 10 ∷ 11 ∷ []
 abbrev pub Unchanged : Type 0
 Unchanged = (a : Lent) (m : Model) → listed (outcome a m .refusal) keeping ≡ true → outcome a m .next ≡ m
 
--- 7: "that association is dropped", and nothing else. The frame brought an envelope of this client that opened, so that no forged
--- frame drops an association, and its counter lay outside the window.
+-- 7: "that association is dropped", with it H's transfer is forgotten, and nothing else. The frame brought an envelope of this client that
+-- opened, so that no forged frame drops an association, and its counter lay outside the window.
 pub record Dropping (a : Lent) (m after : Model) : Type 0 where
   pub client : CipherClient
   pub tag : Tag
@@ -241,7 +267,7 @@ pub record Dropping (a : Lent) (m after : Model) : Type 0 where
   pub sender : SentBy (Ciphering client) a
   pub envelope : Brings a (m .line) client tag counter text
   pub outside : Outside client counter (m .line)
-  pub drops : after ≡ withLine (associates (Ciphering client) none (m .line)) m
+  pub drops : after ≡ settled (withLine (associates (Ciphering client) none (m .line)) m)
 
 abbrev pub Dropped : Type 0
 Dropped = (a : Lent) (m : Model) → outcome a m .refusal ≡ 7 → Dropping a m (outcome a m .next)
@@ -259,13 +285,16 @@ PlainUnchanged =
     → outcome a m .next ≡ m
 
 -- 13: "for H, counters advance; a wrong proof ends the association"; the last accepted is the counter of the envelope that
--- opened, a request's or a proof's; the body is as it was
+-- opened, a request's or a proof's; the body is as it was, or its transfer is forgotten
 pub data Advanced (a : Lent) (l : Line) (c : CipherClient) : Line → Type 0 where
   request : {k : ServiceKind} {n : ℕ} {text : List ℕ} → Brings a l c (DedicatedRequest k) n text → Accepted c n l → Advanced a l c (advanced c (accepted c n l))
   proof : {n : ℕ} {text : List ℕ} → Brings a l c GlobalAction n text → Accepted c n l → Advanced a l c (advanced c (accepted c n (associates (Ciphering c) none l)))
 
 abbrev pub DeniedBody : Type 0
-DeniedBody = (a : Lent) (m : Model) → outcome a m .refusal ≡ 13 → outcome a m .next .body ≡ m .body
+DeniedBody =
+    (a : Lent) (m : Model)
+    → outcome a m .refusal ≡ 13
+    → (outcome a m .next .body ≡ m .body) ⊎ (outcome a m .next .body ≡ withTransfer idle (m .body))
 
 abbrev pub DeniedLine : Type 0
 DeniedLine = (a : Lent) (m : Model) (c : CipherClient) → SentBy (Ciphering c) a → outcome a m .refusal ≡ 13 → Advanced a (m .line) c (outcome a m .next .line)

@@ -6,7 +6,7 @@ use Prim.Native.Nat.{ℕ}
 use Rattle.model.specs.declared.CipherClient.{CipherClient}
 use Rattle.model.specs.declared.Client.{Client}
 use Rattle.model.specs.State.{Line}
-use Rattle.model.specs.Objects.{Request}
+use Rattle.model.specs.Objects.{Inquiry}
 use Rattle.model.specs.Calls.{Wrap, Decision, answer, serve}
 use Rattle.hdlc.specs.declared.Head.{Head}
 use Rattle.hdlc.specs.declared.FrameTest.{FrameTest}
@@ -99,7 +99,7 @@ bytesOf (encloses h bs e) = apduFrame h (bs ++ closed e)
 -- a frame that the line answers, or one that asks the body, with the line after it
 pub data Ruling : Type 0 where
   says : Test → Reply → Line → Ruling
-  asks : Request → Wrap → Line → Ruling
+  asks : Inquiry → Wrap → Line → Ruling
 
 -- an AARQ not accepted, by "any departure": the rejection, plain
 abbrev pub refusedAarq : Client → Head → Line → Ruling

@@ -2,23 +2,20 @@
 use mathlib.Core.Path.{_≡_}
 use mathlib.Core.List.{List, []}
 use Prim.Native.Nat.{ℕ, _≤_}
-use mathlib.Core.Bool.{true}
 use lib.ListN.{length}
-use lib.Dec.{eqb}
 use Rattle.model.specs.declared.Name.{Name}
 use Rattle.model.specs.Limits.{longestSent, dataRoom}
-use Rattle.model.specs.Names.{every}
-use Rattle.model.specs.State.{Body}
-use Rattle.store.specs.declared.Rows.{Rows as StoredRows}
-use Rattle.store.specs.Lists.{entriesOf}
-use Rattle.model.specs.Objects.{Result, granted, denied, nameData, simpleData, rowsData, unsigned16, unsigned32, scalerUnit, attributeData}
+use Rattle.model.specs.State.{Transfer, Body}
+use Rattle.model.specs.Objects.{Result, granted, begun, denied, nameData, simpleData, rowsData, unsigned16, unsigned32, scalerUnit, attributeData}
 use Rattle.objects.specs.declared.Shown.{Shown}
 use Rattle.results.specs.declared.Data.{Data}
 use Rattle.results.specs.declared.Data.the-variants.{Name as Named, Plain, Rows, RecordNumber, Value, ScalerUnit, Nothing}
 use Rattle.results.specs.declared.Outcome.{Outcome}
-use Rattle.results.specs.declared.Outcome.the-variants.{Granted, Denied}
+use Rattle.results.specs.declared.Outcome.the-variants.{Granted, Begun, Denied}
+use Rattle.results.specs.declared.Invoked.{Invoked}
+use Rattle.results.specs.declared.Invoked.the-variants.{Done, Denied as MethodDenied}
 use Rattle.objects.specs.Meanings.{plainAs, shownAs}
-use Rattle.objects.specs.Picks.{marked}
+use Rattle.picks.specs.Marks.{marked}
 
 -- the bytes of each case, from the name asked for and the body
 abbrev pub dataAs : Name → Body → Data → List ℕ
@@ -34,22 +31,25 @@ dataAs n b Nothing = []
 abbrev pub Shows : Shown → (a which : ℕ) → Data → Type 0
 Shows x a which d = (n : Name) (b : Body) → dataAs n b d ≡ attributeData (shownAs n x) n a (marked which (b .store .rows)) b
 
-abbrev pub outcomeAs : Name → Body → Outcome → Result
-outcomeAs n b (Granted d) = granted (dataAs n b d)
-outcomeAs n b (Denied code) = denied code
+-- the transfer is the one that begins, where one does
+abbrev pub outcomeAs : Transfer → Name → Body → Outcome → Result
+outcomeAs t n b (Granted d) = granted (dataAs n b d)
+outcomeAs t n b (Begun which) = begun t (rowsData (marked which (b .store .rows)))
+outcomeAs t n b (Denied code) = denied code
+
+-- what a method comes to
+abbrev pub invokedAs : Invoked → Result
+invokedAs Done = granted []
+invokedAs (MethodDenied code) = denied code
 
 -- what is granted can be written: it takes no more than its room
 abbrev pub Writable : Name → Body → Outcome → Type 0
 Writable n b (Granted d) = length (dataAs n b d) ≤ dataRoom longestSent
+Writable n b (Begun which) = Unit {0}
 Writable n b (Denied code) = Unit {0}
 
--- what a request comes to
+-- what a request comes to; of the transfer that it starts the code's outcome says nothing
 pub record Comes (n : Name) (b : Body) (m : Result) (r : Outcome) : Type 0 where
-  pub means : outcomeAs n b r ≡ m
+  pub starts : Transfer
+  pub means : outcomeAs starts n b r ≡ m
   pub writable : Writable n b r
-
--- what sound rows have: each as many cells as there are columns, and no more of either than there is room for
-pub record Even (s : StoredRows) (columns : ℕ) : Type 0 where
-  pub few : s .count ≤ 15
-  pub narrow : columns ≤ 16
-  pub cells : every (λ i e. eqb (length (e .cells)) columns) 0 (entriesOf s) ≡ true

@@ -1,4 +1,5 @@
 // Requests, values, release and exceptions.
+use cosem::Asked;
 use cosem::Entries;
 use cosem::Exception;
 use cosem::Reading;
@@ -18,7 +19,7 @@ ghost use Prim.Native.Nat.{_<_};
 pub fn line(s: &[u8], m: &[u8]) {
     let l = text::letter(s);
     match l {
-        b'G' => reading(m, cosem::read_get(m)),
+        b'G' => reading(m, cosem::read_service(ServiceKind::Get, m)),
         b'A' => reading(m, cosem::read_action(m)),
         b'T' => tag(cosem::tag_in(m)),
         b'R' => print_bool(cosem::is_release(m)),
@@ -29,11 +30,23 @@ pub fn line(s: &[u8], m: &[u8]) {
     }
 }
 
-// Invoke byte, class and name, and what is wanted.
 fn reading(apdu: &[u8], r: Reading) {
-    let Reading::Asks(q) = r else {
-        return print(b"malformed");
-    };
+    match r {
+        Reading::Asks(q) => asked(apdu, q),
+        Reading::GoesOn { invoke, number } => goes_on(invoke, number),
+        Reading::Malformed => print(b"malformed"),
+    }
+}
+
+// Invoke byte, and the number of the block received last.
+fn goes_on(invoke: u8, number: u32) {
+    print_hex(&[invoke]);
+    print(b", after block ");
+    print_number(number as u64);
+}
+
+// Invoke byte, class and name, and what is wanted.
+fn asked(apdu: &[u8], q: Asked) {
     print_hex(&[q.invoke]);
     spaced(&[(q.class / 256) as u8, (q.class % 256) as u8]);
     let name = cosem::name_in(apdu);

@@ -21,7 +21,7 @@ returns c =
     let start = at-invoke-method .before .before .before in
     let a = start .args in
     let v = parameterIn (a .apdu .now) (a .argument) in
-    method-granted (requestAs (a .query) (action (a .method) v)) (bodyOf (a .body)) (foundAs (a .query .name) (a .found)) _ (a .method) v _ (rw (at-granted .enum-told .given .1) at (at-invoke-method .invoke-method .ensures (bodyOf (a .body)))) refl (then (at-head .put-head .ensures) (at-end .put .ensures)) (c .after-method .ensures (a .query .name) _)
+    method-granted (requestAs (a .query) (action (a .method) v)) (bodyOf (a .body)) (foundAs (a .query .name) (a .found)) _ (a .method) v _ (rw (at-granted .enum-told .given .1) at (at-invoke-method .invoke-method .ensures)) refl (then (at-head .put-head .ensures) (at-end .put .ensures)) (c .after-method .ensures (a .query .name) _)
 
 returns-2 : tie.Need-returns-2
 returns-2 c =
@@ -32,7 +32,7 @@ returns-2 c =
     let start = at-invoke-method .before .before .before in
     let a = start .args in
     let v = parameterIn (a .apdu .now) (a .argument) in
-    method-denied (requestAs (a .query) (action (a .method) v)) (bodyOf (a .body)) (foundAs (a .query .name) (a .found)) _ (a .method) v _ (rw (at-denied .o .given .1) at (at-invoke-method .invoke-method .ensures (bodyOf (a .body)))) refl (then (at-head .put-head2 .ensures) (at-end .put2 .ensures)) refl
+    method-denied (requestAs (a .query) (action (a .method) v)) (bodyOf (a .body)) (foundAs (a .query .name) (a .found)) _ (a .method) v _ (rw (at-denied .o .given .1) at (at-invoke-method .invoke-method .ensures)) refl (then (at-head .put-head2 .ensures) (at-end .put2 .ensures)) refl
 
 pub answer-action-spec : {M : Type 1} → statement M
 answer-action-spec = tie.close (tie.spec (λ c κs. search needs) (λ c. search needs) (λ c κs. omega (arith, text-room)) (λ c κs. omega (arith, text-room)) (λ c κs. search needs) (λ c. search needs) (λ c κs. omega (arith, text-room)) (λ c κs. omega (arith, text-room)) (λ c. search needs) returns (λ c. search needs) returns-2)

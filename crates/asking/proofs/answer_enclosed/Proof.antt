@@ -21,7 +21,7 @@ use Rattle.asking.proofs.answer_enclosed.Tie as tie
 
 answer-requires : tie.Need-answer-requires
 answer-requires c κs =
-    let s = c .before .before .before .before .before .before .before .before .before .before in
+    let s = c .before .before .before .before .before .before .before .before .before .before .before in
     let m = s .args .meter in (
       sound-body m (s .pre .0),
       omega (arith, reply-room, text-room, s .pre .1),
@@ -30,7 +30,7 @@ answer-requires c κs =
 send-enclosed-requires : tie.Need-send-enclosed-requires
 send-enclosed-requires c κs =
     let at-answer = c .before .before .before .before .before .before in
-    let s = at-answer .before .before .before .before .before .before .before .before .before .before .before in
+    let s = at-answer .before .before .before .before .before .before .before .before .before .before .before .before in
     let t = at-answer .answer .ensures in (omega (arith, t .wrote .kept, s .pre .1), answer-short _ _ 20 t)
 
 returns : tie.Need-returns
@@ -39,7 +39,8 @@ returns c lent e =
     let at-send-enclosed = c .before .before .before in
     let at-answer-tag = at-send-enclosed .before .before in
     let at-answer = at-answer-tag .before .before .before .before .before in
-    let at-is-selective = at-answer .before .before in
+    let at-takes-blocks = at-answer .before .before in
+    let at-is-selective = at-takes-blocks .before in
     let at-with-counters = at-is-selective .before in
     let at-take = at-with-counters .before in
     let at-accept = at-take .before in
@@ -58,7 +59,7 @@ returns c lent e =
     let keys = e ∙ ap (λ (x : Association). keysFrom (keyIn x) (lent .ak)) (sym (counted-held k (taken pair .counters) l)) in
     let title = sym (counted-title k (taken pair .counters) l) in
     let sent = ap (λ (n : Taken). n .number) number ∙ ap (λ (n : Counters). n .sent) (sym (counted-counters k (taken pair .counters) l)) in
-    rw (sym (at-is-selective .is-selective .ensures), advanced-is k (a .counter) l)
+    rw (sym (at-is-selective .is-selective .ensures), sym (at-takes-blocks .takes-blocks .ensures), advanced-is k (a .counter) l)
     (serves _ _ (a .meter) _ _ next (t .refusal) (t .body)
     (enclosed-sent _ _ 20 t k (lent .ak) _ (a .head) (dedicatedTag (a .kind)) _ _ after (omega arith) keys title sent (rw (at-answer-tag .answer-tag .ensures) at (at-send-enclosed .send-enclosed .ensures)))
     (counted-same k (taken pair .counters) l))
@@ -67,6 +68,7 @@ pub answer-enclosed-spec : {M : Type 1} → statement M
 answer-enclosed-spec =
     tie.close
     (tie.spec
+    (λ c κs. search needs)
     (λ c κs. search needs)
     (λ c κs. search needs)
     (λ c κs. search needs)

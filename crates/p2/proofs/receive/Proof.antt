@@ -36,7 +36,7 @@ hear-requires c κs =
 returns-3 : tie.Need-returns-3
 unfolding ruled view
 returns-3 c =
-    let at-hear = c .before .before in
+    let at-hear = c .before .before .before in
     let at-secrets = at-hear .before .before in
     let at-if2 = at-secrets .before in
     let at-is-sound = at-if2 .before in
@@ -46,6 +46,7 @@ returns-3 c =
     let right = lent-lengths _ _ _ _ _ (sym (at-lent .lent-refusal .ensures) ∙ at-if1 .if1 .left) in
     ruled-answered _ (a .meter) (lent-told _ _ _ _ _ (at-lent .lent-refusal .ensures) ∙ at-if1 .if1 .left) (sym (at-is-sound .is-sound .ensures) ∙ not-false _ (at-if2 .if2 .left))
     (rw (at-secrets .secrets-of .ensures, filled-whole (a .guk .now) (replicate 16 0) (right .guk), filled-whole (a .ak .now) (replicate 16 0) (right .ak), filled-whole (a .challenge .now) (replicate 8 0) (right .challenge)) at (at-hear .hear .ensures))
+    (c .settle .ensures)
 
 pub receive-spec : {M : Type 1} → statement M
-receive-spec = tie.close (tie.spec (λ c κs. search needs) (λ c κs. search needs) returns (λ c κs. search needs) (λ c κs. search needs) returns-2 (λ c κs. search needs) hear-requires (λ c. search needs) returns-3)
+receive-spec = tie.close (tie.spec (λ c κs. search needs) (λ c κs. search needs) returns (λ c κs. search needs) (λ c κs. search needs) returns-2 (λ c κs. search needs) hear-requires (λ c κs. search needs) (λ c. search needs) returns-3)

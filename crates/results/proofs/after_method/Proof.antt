@@ -9,7 +9,9 @@ returns c = λ n d. rw (c .enum-told .given .1)
 
 returns-2 : tie.Need-returns-2
 unfolding bodyOf
-returns-2 c = λ n d. rw (c .before .before .before .before .found .given .1, c .before .enum-told2 .given .1, c .no-rows .ensures)
+returns-2 c =
+    let k = c .before .before .before in
+    λ n d. rw (k .before .before .before .found .given .1, k .enum-told2 .given .1, c .before .before .no-rows .ensures, c .broken .ensures)
 
 returns-3 : tie.Need-returns-3
 unfolding bodyOf
@@ -22,4 +24,4 @@ returns-5 : tie.Need-returns-5
 returns-5 c = λ n d. rw (c .before .before .before .found .given .1, c .enum-told5 .given .1)
 
 pub after-method-spec : {M : Type 1} → statement M
-after-method-spec = tie.close (tie.spec (λ c. search needs) (λ c. search needs) returns (λ c. search needs) (λ c κs. search needs) (λ c. search needs) (λ c. search needs) (λ c. search needs) returns-2 returns-3 returns-4 returns-5)
+after-method-spec = tie.close (tie.spec (λ c. search needs) (λ c. search needs) returns (λ c. search needs) (λ c κs. search needs) (λ c κs. search needs) (λ c. search needs) (λ c. search needs) (λ c. search needs) returns-2 returns-3 returns-4 returns-5)

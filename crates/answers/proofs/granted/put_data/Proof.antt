@@ -3,7 +3,7 @@ use native.Mathlib.Omega.{arith}
 use Rattle.wire_write.proofs.WroteLaws.{nothing}
 use Rattle.body.specs.View.{bodyOf}
 use Rattle.results.proofs.Lengths.{name-long}
-use Rattle.results.proofs.ResultLaws.{sound-even}
+use Rattle.body.proofs.BodyLaws.{sound-even}
 use borrow.Author.Needs.{needs}
 use Rattle.answers.proofs.granted.put_data.Statement.{statement}
 use Rattle.answers.proofs.granted.put_data.Tie as tie

@@ -4,7 +4,7 @@ use Rattle.cosem.proofs.request.read_service.Statement.{statement}
 use Rattle.cosem.proofs.request.read_service.Tie as tie
 
 returns : tie.Need-returns
-returns c = rw (c .before .enum-told .given .1) (c .read-get .ensures)
+returns c = rw (c .before .enum-told .given .1) (c .read-gets .ensures)
 
 returns-3 : tie.Need-returns-3
 returns-3 c = rw (c .before .enum-told3 .given .1) (c .read-action .ensures)

@@ -14,6 +14,11 @@ returns-2 c a e =
     let at-read-action = c .before .before .before in
     rw (sym (at-read-action .read-action .ensures) ∙ c .before .enum-told .given .1) (c .of-line .ensures)
 
+returns-3 : tie.Need-returns-3
+returns-3 c a e =
+    let at-read-action = c .before .before .before in
+    rw (sym (at-read-action .read-action .ensures) ∙ c .before .enum-told2 .given .1) (c .of-line2 .ensures)
+
 pub find-in-answer-spec : {M : Type 1} → statement M
 find-in-answer-spec =
     tie.close
@@ -23,5 +28,8 @@ find-in-answer-spec =
     (λ c κs. search needs)
     (λ c. search needs)
     (λ c κs. search needs)
+    (λ c. search needs)
+    (λ c κs. search needs)
     returns
-    returns-2)
+    returns-2
+    returns-3)

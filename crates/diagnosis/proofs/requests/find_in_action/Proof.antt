@@ -1,5 +1,6 @@
 -- `diagnosis::requests::find_in_action` meets its contract.
 use mathlib.Core.Path.{ap, _∙_}
+use Rattle.call_tests.specs.declared.BodyTest.the-variants.{EntriesWrong}
 use Rattle.call_tests.specs.Road.{resultFinds}
 use borrow.Author.Needs.{needs}
 use Rattle.diagnosis.proofs.requests.find_in_action.Statement.{statement}
@@ -7,8 +8,7 @@ use Rattle.diagnosis.proofs.requests.find_in_action.Tie as tie
 
 returns : tie.Need-returns
 returns c b =
-    let start = c .before .before .before in
-    c .find-in-outcome .ensures (start .args .query .name) b ∙ ap (resultFinds _) (c .before .invoke-method .ensures b)
+    c .find-in-invoked .ensures ∙ ap (resultFinds EntriesWrong) (c .before .invoke-method .ensures)
 
 pub find-in-action-spec : {M : Type 1} → statement M
 find-in-action-spec = tie.close

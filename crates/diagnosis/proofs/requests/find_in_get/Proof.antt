@@ -9,7 +9,7 @@ returns : tie.Need-returns
 returns c =
     let start = c .before .before .before .before in
     let s = start .args in
-    c .find-in-outcome .ensures (s .query .name) (bodyOf (s .body)) ∙ rw (c .before .selector-wrong .ensures (s .apdu .now), c .before .before .read-attribute .ensures .means) refl
+    c .find-in-outcome .ensures (c .before .before .read-attribute .ensures .starts) (s .query .name) (bodyOf (s .body)) ∙ rw (c .before .selector-wrong .ensures (s .apdu .now), c .before .before .read-attribute .ensures .means) refl
 
 pub find-in-get-spec : {M : Type 1} → statement M
 find-in-get-spec =

@@ -5,10 +5,13 @@ use Rattle.diagnosis.proofs.requests.find_in_outcome.Statement.{stateme
 use Rattle.diagnosis.proofs.requests.find_in_outcome.Tie as tie
 
 returns : tie.Need-returns
-returns c n b = rw (c .enum-told .given .1) refl
+returns c x n b = rw (c .enum-told .given .1) refl
 
 returns-2 : tie.Need-returns-2
-returns-2 c n b =
+returns-2 c x n b = rw (c .enum-told2 .given .1) refl
+
+returns-3 : tie.Need-returns-3
+returns-3 c x n b =
     let at-outcome = c .before .before .before in
     rw (at-outcome .outcome .given .1, sym (c .before .code-test .ensures)) (c .of-body .ensures)
 
@@ -18,7 +21,9 @@ find-in-outcome-spec =
     (tie.spec
     (λ c. search needs)
     (λ c. search needs)
+    (λ c. search needs)
     (λ c κs. search needs)
     (λ c κs. search needs)
     returns
-    returns-2)
+    returns-2
+    returns-3)

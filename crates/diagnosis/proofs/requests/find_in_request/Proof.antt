@@ -16,48 +16,9 @@ find-requires c κs =
 returns : tie.Need-returns
 unfolding bodyFinds requested bodyOf
 returns c =
-    let at-find = c .before .before .before .before in
+    let at-find = c .before in
     let at-name-in = at-find .before .before in
-    rw (c .before .before .wanted .given .1, sym (at-name-in .name-in .ensures), sym (at-find .find .ensures)) (c .find-in-get .ensures)
-
-returns-2 : tie.Need-returns-2
-unfolding bodyFinds requested bodyOf
-returns-2 c =
-    let at-find = c .before .before .before .before in
-    let at-name-in = at-find .before .before in
-    rw (c .before .before .wanted2 .given .1, sym (at-name-in .name-in .ensures), sym (at-find .find .ensures)) (c .find-in-get2 .ensures)
-
-returns-3 : tie.Need-returns-3
-unfolding bodyFinds requested bodyOf
-returns-3 c =
-    let at-find = c .before .before .before .before in
-    let at-name-in = at-find .before .before in
-    let start = at-name-in .before .before in
-    rw (c .before .before .wanted3 .given .1, sym (at-name-in .name-in .ensures), sym (at-find .find .ensures)) (c .find-in-action .ensures (bodyOf (start .args .body)))
-
-returns-4 : tie.Need-returns-4
-unfolding bodyFinds requested bodyOf
-returns-4 c =
-    let at-find = c .before .before .before .before in
-    let at-name-in = at-find .before .before in
-    let start = at-name-in .before .before in
-    rw (c .before .before .wanted4 .given .1, sym (at-name-in .name-in .ensures), sym (at-find .find .ensures)) (c .find-in-action2 .ensures (bodyOf (start .args .body)))
+    rw (sym (at-name-in .name-in .ensures), sym (at-find .find .ensures)) (c .find-in-wanted .ensures)
 
 pub find-in-request-spec : {M : Type 1} → statement M
-find-in-request-spec =
-    tie.close
-    (tie.spec
-    (λ c κs. search needs)
-    find-requires
-    (λ c. search needs)
-    (λ c κs. search needs)
-    (λ c. search needs)
-    (λ c κs. search needs)
-    (λ c. search needs)
-    (λ c κs. search needs)
-    (λ c. search needs)
-    (λ c κs. search needs)
-    returns
-    returns-2
-    returns-3
-    returns-4)
+find-in-request-spec = tie.close (tie.spec (λ c κs. search needs) find-requires (λ c κs. search needs) returns)

@@ -1,8 +1,5 @@
 -- `entering::challenge::answer_challenge` meets its contract.
-use mathlib.Core.Path.{refl, sym, _∙_}
-use Rattle.line.specs.View.{lineOf}
-use Rattle.protocol.specs.Rulings.{malformedApdu}
-use Rattle.ending.proofs.Endings.{accepted-same}
+use mathlib.Core.Path.{sym, _∙_}
 use borrow.Author.Needs.{needs}
 use Rattle.entering.proofs.challenge.answer_challenge.Statement.{statement}
 use Rattle.entering.proofs.challenge.answer_challenge.Tie as tie
@@ -16,14 +13,15 @@ returns c a e b =
 
 returns-2 : tie.Need-returns-2
 returns-2 c a e b =
-    let at-except = c .before .before in
-    let at-accept-counter = at-except .before .before in
-    let at-enum-told = at-accept-counter .before in
-    let at-read-action = at-enum-told .before .before in
-    let s = at-read-action .before .before .before in
-    let next = at-accept-counter .accept-counter .ensures in
-    rw (sym (at-read-action .read-action .ensures) ∙ at-enum-told .enum-told .given .1, sym next)
-    (at-except .except .ensures (s .args .line) malformedApdu refl (λ d. accepted-same (s .args .client) (s .args .counter) (lineOf (s .args .line)) next d) b)
+    let at-misread = c .before .before in
+    let at-told = at-misread .before .before in
+    rw (sym (at-told .before .before .read-action .ensures) ∙ at-told .enum-told .given .1) (at-misread .misread .ensures b)
+
+returns-3 : tie.Need-returns-3
+returns-3 c a e b =
+    let at-misread = c .before .before in
+    let at-told = at-misread .before .before in
+    rw (sym (at-told .before .before .read-action .ensures) ∙ at-told .enum-told2 .given .1) (at-misread .misread2 .ensures b)
 
 pub answer-challenge-spec : {M : Type 1} → statement M
 answer-challenge-spec =
@@ -34,8 +32,11 @@ answer-challenge-spec =
     (λ c κs. search needs)
     (λ c. search needs)
     (λ c κs. search needs)
+    (λ c. search needs)
     (λ c κs. search needs)
     (λ c. search needs)
     returns
     (λ c. search needs)
-    returns-2)
+    returns-2
+    (λ c. search needs)
+    returns-3)

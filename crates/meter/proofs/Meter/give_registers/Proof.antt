@@ -20,10 +20,11 @@ returns-2 c =
 returns-3 : tie.Need-returns-3
 unfolding registersOf
 returns-3 c =
-    let at-if2 = c .before .before .before .before in
+    let at-no-rows = c .before .before .before in
+    let at-if2 = at-no-rows .before .before .before in
     let at-if1 = at-if2 .before .before in
     let start = at-if1 .before .before in
-    rw (c .done .ensures) (accepts _ (start .args .self) _ (sym (at-if1 .before .is-sound .ensures) ∙ not-false _ (at-if1 .if1 .left)) (λ p. registers-given p (start .args .self) (record { count = start .args .count; items = start .args .registers }) _ _ (sym (at-if2 .before .registers-accepted .ensures) ∙ not-false _ (at-if2 .if2 .left)) (c .before .before .no-columns .ensures) (c .before .no-rows .ensures)))
+    rw (c .done .ensures) (accepts _ (start .args .self) _ (sym (at-if1 .before .is-sound .ensures) ∙ not-false _ (at-if1 .if1 .left)) (λ p. registers-given p (start .args .self) (record { count = start .args .count; items = start .args .registers }) _ _ _ (sym (at-if2 .before .registers-accepted .ensures) ∙ not-false _ (at-if2 .if2 .left)) (at-no-rows .before .no-columns .ensures) (at-no-rows .no-rows .ensures) (c .before .broken .ensures)))
 
 pub give-registers-spec : {M : Type 1} → statement M
-give-registers-spec = tie.close (tie.spec (λ c κs. search needs) (λ c κs. search needs) returns (λ c κs. search needs) (λ c κs. search needs) returns-2 (λ c κs. search needs) (λ c κs. search needs) (λ c κs. search needs) returns-3)
+give-registers-spec = tie.close (tie.spec (λ c κs. search needs) (λ c κs. search needs) returns (λ c κs. search needs) (λ c κs. search needs) returns-2 (λ c κs. search needs) (λ c κs. search needs) (λ c κs. search needs) (λ c κs. search needs) returns-3)

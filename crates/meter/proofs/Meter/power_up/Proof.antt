@@ -12,10 +12,11 @@ returns c = rw (c .refused .ensures) (record { owned = unsound _ _ (sym (c .befo
 
 returns-2 : tie.Need-returns-2
 returns-2 c =
-    let at-powered-up = c .before .before .before in
+    let at-no-rows = c .before .before in
+    let at-powered-up = at-no-rows .before .before in
     let at-if1 = at-powered-up .before .before in
     let start = at-if1 .before .before in
-    rw (c .done .ensures) (record { owned = accepts _ (start .args .self) _ (sym (at-if1 .before .is-sound .ensures) ∙ not-false _ (at-if1 .if1 .left)) (λ p. powered p (start .args .self) _ _ (at-powered-up .powered-up .ensures .view) (c .before .no-rows .ensures)); wiped = λ _. at-powered-up .powered-up .ensures .wiped })
+    rw (c .done .ensures) (record { owned = accepts _ (start .args .self) _ (sym (at-if1 .before .is-sound .ensures) ∙ not-false _ (at-if1 .if1 .left)) (λ p. powered p (start .args .self) _ _ _ (at-powered-up .powered-up .ensures .view) (at-no-rows .no-rows .ensures) (c .before .no-transfer .ensures)); wiped = λ _. at-powered-up .powered-up .ensures .wiped })
 
 pub power-up-spec : {M : Type 1} → statement M
-power-up-spec = tie.close (tie.spec (λ c κs. search needs) (λ c κs. search needs) returns (λ c κs. search needs) (λ c κs. search needs) (λ c κs. search needs) returns-2)
+power-up-spec = tie.close (tie.spec (λ c κs. search needs) (λ c κs. search needs) returns (λ c κs. search needs) (λ c κs. search needs) (λ c κs. search needs) (λ c κs. search needs) returns-2)

@@ -23,10 +23,11 @@ returns-2 c =
 returns-3 : tie.Need-returns-3
 unfolding columnsOf
 returns-3 c =
-    let at-if2 = c .before .before in
+    let at-no-rows = c .before .before .before in
+    let at-if2 = at-no-rows .before in
     let at-if1 = at-if2 .before .before .before .before in
     let start = at-if1 .before .before in
-    rw (c .done .ensures) (accepts _ (start .args .self) _ (sym (at-if1 .before .is-sound .ensures) ∙ not-false _ (at-if1 .if1 .left)) (λ p. columns-set p (start .args .self) (record { count = start .args .count; items = start .args .columns }) _ (sym (at-if2 .before .columns-accepted .ensures) ∙ not-false _ (at-if2 .if2 .left)) (c .before .no-rows .ensures)))
+    rw (c .done .ensures) (accepts _ (start .args .self) _ (sym (at-if1 .before .is-sound .ensures) ∙ not-false _ (at-if1 .if1 .left)) (λ p. columns-set p (start .args .self) (record { count = start .args .count; items = start .args .columns }) _ _ (sym (at-if2 .before .columns-accepted .ensures) ∙ not-false _ (at-if2 .if2 .left)) (at-no-rows .no-rows .ensures) (c .before .broken .ensures)))
 
 pub set-columns-spec : {M : Type 1} → statement M
-set-columns-spec = tie.close (tie.spec (λ c κs. search needs) (λ c κs. search needs) returns columns-accepted-requires (λ c κs. search needs) returns-2 (λ c κs. search needs) (λ c κs. search needs) returns-3)
+set-columns-spec = tie.close (tie.spec (λ c κs. search needs) (λ c κs. search needs) returns columns-accepted-requires (λ c κs. search needs) returns-2 (λ c κs. search needs) (λ c κs. search needs) (λ c κs. search needs) returns-3)

@@ -1,0 +1,29 @@
+-- `picks::transfers::broken` meets its contract.
+use Rattle.picks.specs.Transfers.{transferOf}
+use borrow.Author.Needs.{needs}
+use Rattle.picks.proofs.transfers.broken.Statement.{statement}
+use Rattle.picks.proofs.transfers.broken.Tie as tie
+
+returns : tie.Need-returns
+unfolding transferOf
+returns c = rw (c .enum-told .given .1)
+
+returns-2 : tie.Need-returns-2
+unfolding transferOf
+returns-2 c = rw (c .before .enum-told2 .given .1, c .ended-transfer .ensures)
+
+returns-3 : tie.Need-returns-3
+unfolding transferOf
+returns-3 c = rw (c .enum-told3 .given .1)
+
+pub broken-spec : {M : Type 1} → statement M
+broken-spec =
+    tie.close
+    (tie.spec
+    (λ c. search needs)
+    (λ c. search needs)
+    (λ c κs. search needs)
+    (λ c. search needs)
+    returns
+    returns-2
+    returns-3)

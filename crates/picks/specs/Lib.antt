@@ -1,0 +1,4 @@
+pub mod Marks
+pub mod Sizes
+pub mod Transfers
+pub mod Canonical
