@@ -2,20 +2,20 @@
 use mathlib.Core.Path.{_≡_, refl, sym, ap, subst, _∙_}
 use mathlib.Core.Bool.{Bool, true, false, cond, not, _&&_, false≢true}
 use mathlib.Core.List.{List}
-use Prim.Native.Nat.{ℕ, _+_, _*_, _-_, _≤_, _<_}
+use Prim.Native.Nat.{ℕ, _*_, _-_, _≤_, _<_}
 use native.Mathlib.Omega.{arith}
-use lib.Dec.{eqb, ltb, leb}
+use lib.Dec.{eqb, leb}
 use lib.ListN.{length, take, drop, getD}
-use borrow.Author.Tests.{ltb-true}
 use Rattle.wire.specs.Wrote.{Wrote}
 use Rattle.wire_write.proofs.WroteLaws.{there}
 use Rattle.model.specs.Limits.{longestSent, dataRoom, blockRoom}
 use Rattle.model.specs.Selecting.{Selection, Picking, Described, picking, faulty, described}
 use Rattle.model.specs.State.{Entry, Store, profile, Transfer, idle, running, runs, Body}
 use Rattle.model.specs.Objects.{Content, simple, rows, recordNumber, register, Meaning, known, unknown, serves, Request, Result, granted, begun, denied, attributeData, Picked, these, wrong, picked, pickedBy, takesSelector, begins, fitting, shown, attributeRead, pickedRows, rowsData, longData}
-use Rattle.model.specs.Soundness.{goodPicking, couldGrant, goesOn}
+use Rattle.model.specs.Soundness.{rowsAllow}
 use Rattle.model.proofs.LimitFacts.{block-room}
 use Rattle.model.proofs.ListLaws.{both, by-test}
+use Rattle.model.proofs.TransferLaws.{going}
 use Rattle.store.specs.declared.Rows.{Rows}
 use Rattle.store.specs.Lists.{entriesOf}
 use Rattle.store.proofs.Blank.{blankRow}
@@ -38,29 +38,15 @@ written-part {m = m} {bs = bs} {r = r} w =
     let n : r - 0 ≡ length bs = omega (arith, w .next) in
     ap (λ (j : ℕ). take j (drop 0 m)) n ∙ there w
 
--- what goes on: a picking that is good, and data that go on after block k
-pub record GoingOn (p : Picking) (k : ℕ) (rs : List Entry) : Type 0 where
-  pub good : pickedOf p rs ≡ picked p rs
-  pub more : blockRoom longestSent * k < length (rowsData (pickedRows (picked p rs)))
-
-pub going-on : (s : Store) (p : Picking) (k : ℕ) → goesOn s (running (profile p) k) ≡ true → GoingOn p k (s .rows)
-unfolding goesOn
-going-on s p k e =
-    let d = longData (profile p) s in
-    let h = both (couldGrant (profile p) s && ltb (dataRoom longestSent) (length d) && leb 1 k) _ e in
-    let g = both (couldGrant (profile p) s && ltb (dataRoom longestSent) (length d)) _ (h .0) in
-    let c = both (couldGrant (profile p) s) _ (g .0) in
-    record { good = ap (λ (b : Bool). cond b (picked p (s .rows)) (wrong 13)) (both (goodPicking p) _ (c .0) .0); more = ltb-true _ _ (h .1) }
-
 -- The rows that the code picked anew are those of the transfer: their data go on after block k, which is a small number.
-module _ (s : Store) (r : Rows) (p : Picking) (k which : ℕ) (e : s .rows ≡ entriesOf r) (g : goesOn s (running (profile p) k) ≡ true) (w : marked which (entriesOf r) ≡ pickedRows (pickedOf p (entriesOf r))) where
+module _ (s : Store) (r : Rows) (p : Picking) (k which : ℕ) (e : s .rows ≡ entriesOf r) (g : rowsAllow s (running (profile p) k) ≡ true) (w : marked which (entriesOf r) ≡ pickedRows (pickedOf p (entriesOf r))) where
   pub long-data : rowsData (marked which (entriesOf r)) ≡ longData (profile p) s
   long-data =
-      let h = going-on s p k g in
-      ap rowsData (w ∙ ap (λ (rs : List Entry). pickedRows (pickedOf p rs)) (sym e) ∙ ap pickedRows (h .good))
+      let good : pickedOf p (s .rows) ≡ picked p (s .rows) = rw (going s (profile p) k g .granted) refl in
+      ap rowsData (w ∙ ap (λ (rs : List Entry). pickedRows (pickedOf p rs)) (sym e) ∙ ap pickedRows good)
 
   pub more-comes : blockRoom longestSent * k < length (rowsData (marked which (entriesOf r)))
-  more-comes = rw long-data (going-on s p k g .more)
+  more-comes = rw long-data (going s (profile p) k g .more)
 
   pub few-blocks : length (rowsData (marked which (entriesOf r))) ≤ 1487 → k ≤ 2
   few-blocks h = let m = rw block-room at more-comes in omega (arith, m)

@@ -1,10 +1,11 @@
-// The body's answer to an opened request, written into the reply buffer as a plain APDU, and the body afterwards. A writer
-// requires room for its bytes; what is to be written, and how long it is, was decided before the first byte.
+// The body's answer to an opened request, written into the reply buffer as a plain APDU, and what the request makes of the body. A
+// writer requires room for its bytes; what is to be written, and how long it is, was decided before the first byte.
 use crate::granted::put_data;
 use crate::transfer::after_read;
 use crate::transfer::answer_next;
 use crate::transfer::put_rows_block;
 use body::BodyState;
+use body::Change;
 use cosem::Asked;
 use cosem::Wanted;
 use model::Client;
@@ -16,17 +17,17 @@ use results::Invoked;
 use results::Outcome;
 ghost use mathlib.Core.Path.{_≡_};
 ghost use mathlib.Core.Bool.{true};
-ghost use mathlib.Core.List.{[], _∷_};
-ghost use Prim.Native.Nat.{_+_, _≤_};
+ghost use mathlib.Core.List.{List, [], _∷_};
+ghost use Prim.Native.Nat.{ℕ, _+_, _≤_};
 ghost use lib.ListN.{length};
 ghost use Rattle.wire.specs.Wrote.{Wrote};
 ghost use Rattle.model.specs.Limits.{longestSent, textRoom};
 ghost use Rattle.model.specs.Objects.{action, answered, ask, get, turned};
-ghost use Rattle.cosem.specs.Requests.{requested};
+ghost use Rattle.cosem.specs.Requests.{requested, serviceIn};
 ghost use Rattle.body.specs.View.{bodyOf, bodySound};
 ghost use Rattle.objects.specs.Meanings.{foundAs, requestAs};
 ghost use Rattle.objects.specs.Picks.{parameterIn, selectionIn};
-ghost use Rattle.answers.specs.Promise.{Turns, inquiryIn};
+ghost use Rattle.answers.specs.Promise.{Turns, inquiryIn, wantedBy};
 
 mod granted;
 mod transfer;
@@ -34,14 +35,23 @@ mod transfer;
 // What an opened APDU asks of the body: a request; or the next block of a long answer, after the block of this number.
 pub enum Inquiry {
     Ask(Asked),
-    Next { invoke: u8, number: u32 },
+    GoOn { invoke: u8, number: u32 },
 }
 
-// The number of the refusal, or 0, the place after the answer, and the body.
+// The number of the refusal, or 0, the place after the answer, and what becomes of the body.
 pub struct Turned {
     pub refusal: u8,
     pub next: usize,
-    pub body: BodyState,
+    pub change: Change,
+}
+
+// What a request wants: to read an attribute by a selector, or to invoke a method with an argument. The number is that of the
+// attribute or of the method; a read has no argument, and a method no selector.
+struct Want {
+    reads: bool,
+    number: u8,
+    selector: Selector,
+    argument: Argument,
 }
 
 // The answer to what a client asked with this APDU; selective access and block transfer were agreed or not.
@@ -56,13 +66,13 @@ pub fn answer(
     at: usize,
 ) -> Turned
     requires { ⌜ (bodySound (bodyOf body) ≡ true) × (at + textRoom longestSent ≤ length (now out)) ⌝ }
-    ensures { λ r. ⌜ Turns (turned (inquiryIn client selective blocks (now (apdu .entry)) inquiry) (bodyOf body)) (now (out .entry)) at (now (out .exit)) r ⌝ }
+    ensures { λ r. ⌜ Turns (turned (inquiryIn client selective blocks (now (apdu .entry)) inquiry) (bodyOf body)) body (now (out .entry)) at (now (out .exit)) r ⌝ }
 {
     match inquiry {
         Inquiry::Ask(asked) => {
             answer_request(body, client, selective, blocks, apdu, asked, out, at)
         }
-        Inquiry::Next { invoke, number } => answer_next(body, invoke, number, out, at),
+        Inquiry::GoOn { invoke, number } => answer_next(body, invoke, number, out, at),
     }
 }
 
@@ -78,7 +88,7 @@ fn answer_request(
     at: usize,
 ) -> Turned
     requires { ⌜ (bodySound (bodyOf body) ≡ true) × (at + textRoom longestSent ≤ length (now out)) ⌝ }
-    ensures { λ r. ⌜ Turns (turned (ask (requested client selective blocks (now (apdu .entry)) asked)) (bodyOf body)) (now (out .entry)) at (now (out .exit)) r ⌝ }
+    ensures { λ r. ⌜ Turns (turned (ask (requested client selective blocks (now (apdu .entry)) asked)) (bodyOf body)) body (now (out .entry)) at (now (out .exit)) r ⌝ }
 {
     let name = cosem::name_in(apdu);
     let query = Query {
@@ -92,54 +102,49 @@ fn answer_request(
     let registers = body.registers;
     let found = objects::find(client, name, registers);
     let wanted = asked.wanted;
+    let want = want_of(wanted);
+    if want.reads {
+        let selector = want.selector;
+        return answer_get(body, found, query, want.number, selector, apdu, out, at);
+    }
+    let argument = want.argument;
+    answer_action(body, found, query, want.number, argument, apdu, out, at)
+}
+
+fn want_of(wanted: Wanted) -> Want
+    ensures { λ r. ⌜ ((s : List ℕ) → wantedBy s r ≡ serviceIn s wanted) ⌝ }
+{
     match wanted {
-        Wanted::Read { attribute } => answer_get(
-            body,
-            found,
-            query,
-            attribute,
-            Selector::All,
-            apdu,
-            out,
-            at,
-        ),
+        Wanted::Read { attribute } => read_of(attribute, Selector::All),
         Wanted::ReadSelected {
             attribute,
             selector,
-            at: value,
-        } => answer_get(
-            body,
-            found,
-            query,
-            attribute,
-            Selector::Selected {
-                selector,
-                at: value,
-            },
-            apdu,
-            out,
             at,
-        ),
-        Wanted::Invoke { method } => answer_action(
-            body,
-            found,
-            query,
-            method,
-            Argument::Absent,
-            apdu,
-            out,
-            at,
-        ),
-        Wanted::InvokeWith { method, at: value } => answer_action(
-            body,
-            found,
-            query,
-            method,
-            Argument::Present(value),
-            apdu,
-            out,
-            at,
-        ),
+        } => read_of(attribute, Selector::Selected { selector, at }),
+        Wanted::Invoke { method } => invocation_of(method, Argument::Absent),
+        Wanted::InvokeWith { method, at } => invocation_of(method, Argument::Present(at)),
+    }
+}
+
+fn read_of(attribute: u8, selector: Selector) -> Want
+    ensures { λ r. ⌜ ((s : List ℕ) → wantedBy s r ≡ get attribute (selectionIn s selector)) ⌝ }
+{
+    Want {
+        reads: true,
+        number: attribute,
+        selector,
+        argument: Argument::Absent,
+    }
+}
+
+fn invocation_of(method: u8, argument: Argument) -> Want
+    ensures { λ r. ⌜ ((s : List ℕ) → wantedBy s r ≡ action method (parameterIn s argument)) ⌝ }
+{
+    Want {
+        reads: false,
+        number: method,
+        selector: Selector::All,
+        argument,
     }
 }
 
@@ -154,7 +159,7 @@ fn answer_get(
     at: usize,
 ) -> Turned
     requires { ⌜ (bodySound (bodyOf body) ≡ true) × (at + textRoom longestSent ≤ length (now out)) ⌝ }
-    ensures { λ r. ⌜ Turns (answered (requestAs query (get attribute (selectionIn (now (apdu .entry)) selector))) (bodyOf body) (foundAs (query .name) found) (get attribute (selectionIn (now (apdu .entry)) selector))) (now (out .entry)) at (now (out .exit)) r ⌝ }
+    ensures { λ r. ⌜ Turns (answered (requestAs query (get attribute (selectionIn (now (apdu .entry)) selector))) (bodyOf body) (foundAs (query .name) found) (get attribute (selectionIn (now (apdu .entry)) selector))) body (now (out .entry)) at (now (out .exit)) r ⌝ }
 {
     let client = query.client;
     let o = results::read_attribute(body, found, query, attribute, selector, apdu);
@@ -166,7 +171,7 @@ fn answer_get(
             Turned {
                 refusal: 0,
                 next: b,
-                body: after_read(body, client, picks::no_transfer()),
+                change: after_read(client, picks::no_transfer()),
             }
         }
         Outcome::Begun { which } => {
@@ -176,7 +181,7 @@ fn answer_get(
             Turned {
                 refusal: 0,
                 next: b.next,
-                body: after_read(body, client, picks::running(picking, 1)),
+                change: after_read(client, picks::running(picking, 1)),
             }
         }
         Outcome::Denied(code) => {
@@ -185,7 +190,7 @@ fn answer_get(
             Turned {
                 refusal: 13,
                 next: b,
-                body: after_read(body, client, picks::no_transfer()),
+                change: after_read(client, picks::no_transfer()),
             }
         }
     }
@@ -202,18 +207,17 @@ fn answer_action(
     at: usize,
 ) -> Turned
     requires { ⌜ (bodySound (bodyOf body) ≡ true) × (at + textRoom longestSent ≤ length (now out)) ⌝ }
-    ensures { λ r. ⌜ Turns (answered (requestAs query (action method (parameterIn (now (apdu .entry)) argument))) (bodyOf body) (foundAs (query .name) found) (action method (parameterIn (now (apdu .entry)) argument))) (now (out .entry)) at (now (out .exit)) r ⌝ }
+    ensures { λ r. ⌜ Turns (answered (requestAs query (action method (parameterIn (now (apdu .entry)) argument))) (bodyOf body) (foundAs (query .name) found) (action method (parameterIn (now (apdu .entry)) argument))) body (now (out .entry)) at (now (out .exit)) r ⌝ }
 {
     let o = results::invoke_method(found, query, method, argument, apdu);
     match o {
         Invoked::Done => {
             let a = put_head(out, at, 0xC7, query.invoke, 0x00);
             let b = wire_write::put(out, a, 0x00);
-            let next = results::after_method(body, found);
             Turned {
                 refusal: 0,
                 next: b,
-                body: next,
+                change: results::after_method(found),
             }
         }
         Invoked::Denied(code) => {
@@ -222,7 +226,7 @@ fn answer_action(
             Turned {
                 refusal: 13,
                 next: b,
-                body,
+                change: body::unchanged(),
             }
         }
     }

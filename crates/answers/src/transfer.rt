@@ -2,6 +2,7 @@
 use crate::Turned;
 use blocks::Block;
 use body::BodyState;
+use body::Change;
 use model::CipherClient;
 use model::Client;
 use picks::Picking;
@@ -14,47 +15,41 @@ ghost use Prim.Native.Nat.{_+_, _*_, _-_, _≤_};
 ghost use lib.ListN.{length};
 ghost use Rattle.model.specs.declared.Client.the-variants.{Ciphering};
 ghost use Rattle.model.specs.Limits.{blockRoom, longestSent, textRoom};
-ghost use Rattle.model.specs.State.{profile, running, withTransfer};
+ghost use Rattle.model.specs.State.{profile, running};
 ghost use Rattle.model.specs.Objects.{Result, afterRead, continued, goOn, refusedTurn, rowsData, transferAfter, turned};
 ghost use Rattle.store.specs.Lists.{entriesOf};
 ghost use Rattle.picks.specs.Marks.{marked};
 ghost use Rattle.picks.specs.Transfers.{pickingOf, transferOf};
 ghost use Rattle.data.specs.Rows.{EvenRows};
 ghost use Rattle.blocks.specs.Block.{WroteBlock};
+ghost use Rattle.body.specs.declared.BodyState.{BodyState as AnyBody};
+ghost use Rattle.body.specs.Change.{Makes};
 ghost use Rattle.body.specs.View.{bodyOf, bodySound};
 ghost use Rattle.answers.specs.Promise.{Turns};
 
 // The most that the data of rows take: fifteen rows of sixteen columns.
 const LONGEST_DATA: usize = 1487;
 
-// The body after a read of the client, which leaves this transfer where it is H's.
-pub fn after_read(body: BodyState, client: Client, transfer: Transfer) -> BodyState
-    ensures { λ r. ⌜ ((x : Result) → transferAfter x ≡ transferOf transfer → bodyOf r ≡ afterRead client x (bodyOf body)) ⌝ }
+// What a read of the client makes of the body: it leaves this transfer where it is H's.
+pub fn after_read(client: Client, transfer: Transfer) -> Change
+    ensures { λ r. ⌜ ((x : Result) → transferAfter x ≡ transferOf transfer → Makes (afterRead client x) r) ⌝ }
 {
     match client {
-        Client::Verification => body,
-        Client::Ciphering(c) => after_ciphered_read(body, c, transfer),
+        Client::Verification => body::unchanged(),
+        Client::Ciphering(c) => after_ciphered_read(c, transfer),
     }
 }
 
 // The same of a client that ciphers.
-fn after_ciphered_read(body: BodyState, client: CipherClient, transfer: Transfer) -> BodyState
-    ensures { λ r. ⌜ ((x : Result) → transferAfter x ≡ transferOf transfer → bodyOf r ≡ afterRead (Ciphering client) x (bodyOf body)) ⌝ }
+fn after_ciphered_read(client: CipherClient, transfer: Transfer) -> Change
+    ensures { λ r. ⌜ ((x : Result) → transferAfter x ≡ transferOf transfer → Makes (afterRead (Ciphering client) x) r) ⌝ }
 {
     match client {
-        CipherClient::Han => with_transfer(body, transfer),
+        CipherClient::Han => body::leaves(transfer),
     }
 }
 
-fn with_transfer(body: BodyState, transfer: Transfer) -> BodyState
-    ensures { λ r. ⌜ bodyOf r ≡ withTransfer (transferOf transfer) (bodyOf body) ⌝ }
-{
-    let mut next = body;
-    next.transfer = transfer;
-    next
-}
-
-// Block k of the rows that were picked, which begins no later than their data end.
+// Block k of the rows that were picked, which begins no later than their data end; k is small, as `put_block` asks.
 pub fn put_rows_block(
     out: &mut [u8],
     at: usize,
@@ -74,13 +69,13 @@ pub fn put_rows_block(
 // The answer to a request for the block after the one of this number.
 pub fn answer_next(body: BodyState, invoke: u8, number: u32, out: &mut [u8], at: usize) -> Turned
     requires { ⌜ (bodySound (bodyOf body) ≡ true) × (at + textRoom longestSent ≤ length (now out)) ⌝ }
-    ensures { λ r. ⌜ Turns (turned (goOn invoke number) (bodyOf body)) (now (out .entry)) at (now (out .exit)) r ⌝ }
+    ensures { λ r. ⌜ Turns (turned (goOn invoke number) (bodyOf body)) body (now (out .entry)) at (now (out .exit)) r ⌝ }
 {
     let transfer = body.transfer;
     let progress = transfer.progress;
     match progress {
-        Progress::Ended => refuse(body, invoke, number, 15, out, at),
-        Progress::Idle => refuse(body, invoke, number, 16, out, at),
+        Progress::Ended => refuse(invoke, number, 15, out, at),
+        Progress::Idle => refuse(invoke, number, 16, out, at),
         Progress::Running => {
             let picking = transfer.picking;
             go_on(body, picking, transfer.block, invoke, number, out, at)
@@ -89,15 +84,15 @@ pub fn answer_next(body: BodyState, invoke: u8, number: u32, out: &mut [u8], at:
 }
 
 // A request for a block is refused, and the transfer forgotten.
-fn refuse(body: BodyState, invoke: u8, number: u32, code: u8, out: &mut [u8], at: usize) -> Turned
+fn refuse(invoke: u8, number: u32, code: u8, out: &mut [u8], at: usize) -> Turned
     requires { ⌜ at + textRoom longestSent ≤ length (now out) ⌝ }
-    ensures { λ r. ⌜ Turns (refusedTurn invoke number code (bodyOf body)) (now (out .entry)) at (now (out .exit)) r ⌝ }
+    ensures { λ r. ⌜ ((b : AnyBody) → Turns (refusedTurn invoke number code (bodyOf b)) b (now (out .entry)) at (now (out .exit)) r) ⌝ }
 {
     let next = blocks::put_refusal(out, at, invoke, number, code);
     Turned {
         refusal: 13,
         next,
-        body: with_transfer(body, picks::no_transfer()),
+        change: body::leaves(picks::no_transfer()),
     }
 }
 
@@ -112,10 +107,10 @@ fn go_on(
     at: usize,
 ) -> Turned
     requires { ⌜ (bodySound (bodyOf body) ≡ true) × (bodyOf body .transfer ≡ running (profile (pickingOf picking)) k) × (at + textRoom longestSent ≤ length (now out)) ⌝ }
-    ensures { λ r. ⌜ Turns (continued invoke number (bodyOf body) (running (profile (pickingOf picking)) k)) (now (out .entry)) at (now (out .exit)) r ⌝ }
+    ensures { λ r. ⌜ Turns (continued invoke number (bodyOf body) (running (profile (pickingOf picking)) k)) body (now (out .entry)) at (now (out .exit)) r ⌝ }
 {
     if number != k {
-        return refuse(body, invoke, number, 19, out, at);
+        return refuse(invoke, number, 19, out, at);
     }
     let rows = body.rows;
     let which = picks::rows_of(rows, picking);
@@ -124,6 +119,6 @@ fn go_on(
     Turned {
         refusal: 0,
         next: b.next,
-        body: with_transfer(body, picks::after_block(picking, next, b.last)),
+        change: body::leaves(picks::after_block(picking, next, b.last)),
     }
 }

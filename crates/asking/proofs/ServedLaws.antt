@@ -1,7 +1,7 @@
--- How a request ends that the body answers: from what was written and went out, the number and the body afterwards, to what the
+-- How a request ends that the body answers: from what was written and went out, the number and what becomes of the body, to what the
 -- ruling promises.
 use mathlib.Core.Path.{_≡_, refl, sym, ap, _∙_}
-use mathlib.Core.Bool.{true, false, false≢true}
+use mathlib.Core.Bool.{false, false≢true}
 use mathlib.Core.List.{List}
 use Prim.Native.Nat.{ℕ, _-_, _≤_, _<_}
 use native.Mathlib.Omega.{arith}
@@ -76,32 +76,32 @@ serves q w m next {becomes} b v e f s a =
     }
 
 -- The body's answer that was written at a place: how long it is, and that it goes out.
-module _ (q : Inquiry) (b : Body) (at : ℕ) {l m : List ℕ} {r : Turned} (t : Turns (turned q b) l at m r) where
-  pub answer-size : r .next - at ≡ length (turned q b .bytes)
+module _ (q : Inquiry) (x : BodyState) (at : ℕ) {l m : List ℕ} {r : Turned} (t : Turns (turned q (bodyOf x)) x l at m r) where
+  pub answer-size : r .next - at ≡ length (turned q (bodyOf x) .bytes)
   answer-size = omega (arith, t .wrote .next)
 
   pub answer-some : 0 < r .next - at
-  answer-some = omega (arith, answer-size, turned-some q b)
+  answer-some = omega (arith, answer-size, turned-some q (bodyOf x))
 
   pub answer-short : r .next - at ≤ textRoom longestSent
   answer-short = omega (arith, t .short)
 
-  answer-there : take (r .next - at) (drop at m) ≡ turned q b .bytes
+  answer-there : take (r .next - at) (drop at m) ≡ turned q (bodyOf x) .bytes
   answer-there = ap (λ (n : ℕ). take n (drop at m)) answer-size ∙ there (t .wrote)
 
-  pub plain-sent : (ak : List ℕ) (h : Head) (n : Line) {o : List ℕ} {k : ℕ} → at ≤ 14 → Sent (apduFrame h (take (r .next - at) (drop at m))) m o k → Sent (seal n (wrap ak Verification h 0xC0) (turned q b .bytes)) l o k
+  pub plain-sent : (ak : List ℕ) (h : Head) (n : Line) {o : List ℕ} {k : ℕ} → at ≤ 14 → Sent (apduFrame h (take (r .next - at) (drop at m))) m o k → Sent (seal n (wrap ak Verification h 0xC0) (turned q (bodyOf x) .bytes)) l o k
   unfolding seal around
   plain-sent ak h n e s =
-      let bs = turned q b .bytes in
+      let bs = turned q (bodyOf x) .bytes in
       sent-over (t .wrote) (rw (answer-there) at s) (omega (arith, t .wrote .next, length-apdu h bs))
 
   pub enclosed-sent : (c : CipherClient) (ak title : List ℕ) (h : Head) (tag counter : ℕ) (keys : Keys) (n : Line) {o : List ℕ} {k : ℕ} → at ≤ 20
       → keys ≡ dedicatedKeys ak c n → title ≡ n .title → counter ≡ counters c n .sent
       → Sent (apduFrame h (sealedEnvelope keys title (answerTag tag) counter (take (r .next - at) (drop at m)))) m o k
-      → Sent (seal n (wrap ak (Ciphering c) h tag) (turned q b .bytes)) l o k
+      → Sent (seal n (wrap ak (Ciphering c) h tag) (turned q (bodyOf x) .bytes)) l o k
   unfolding seal around
   enclosed-sent c ak title h tag counter keys n e ek et ec s =
-      let bs = turned q b .bytes in
+      let bs = turned q (bodyOf x) .bytes in
       let u = rw (answer-there, ek, et, ec) at s in
       let z : length (sealedEnvelope (dedicatedKeys ak c n) (n .title) (answerTag tag) (counters c n .sent) bs) ≡ envelopeLength (length bs) = length-envelope (dedicatedKeys ak c n) (n .title) (answerTag tag) (counters c n .sent) bs in
       sent-over (t .wrote) u (omega (arith, t .wrote .next, z, envelope-size (length bs), length-apdu h (sealedEnvelope (dedicatedKeys ak c n) (n .title) (answerTag tag) (counters c n .sent) bs)))

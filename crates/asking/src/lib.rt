@@ -3,10 +3,10 @@ use answers::Inquiry;
 use cosem::Exception;
 use cosem::Reading;
 use cosem::ServiceKind;
-use ending::Received;
+use ending::Heard;
+use ending::alone;
 use ending::drop_association;
 use ending::except;
-use ending::joined;
 use ending::kept;
 use ending::misread;
 use envelope::Admission;
@@ -30,7 +30,7 @@ ghost use Rattle.answers.specs.Promise.{inquiryIn};
 ghost use Rattle.protocol.specs.Clients.{blocksIn, selectiveIn};
 ghost use Rattle.protocol.specs.Rulings.{asks};
 ghost use Rattle.protocol.specs.Decide.{accepted, advanced, asked, askedInside, ofCiphering, requestEnclosed, wrap};
-ghost use Rattle.ending.specs.Inner.{Follows, FollowsUnder, Ready};
+ghost use Rattle.ending.specs.Inner.{Hears, HearsUnder, Ready};
 
 // A plain request. No key has a part in it.
 pub fn ask_plain(
@@ -40,9 +40,9 @@ pub fn ask_plain(
     kind: ServiceKind,
     apdu: &[u8],
     out: &mut [u8],
-) -> Received
+) -> Heard
     requires { ⌜ Ready meter (now out) ⌝ }
-    ensures { λ r. ⌜ ((a : Lender) → Follows (asked (lineOf (meter .line)) a client head (now (apdu .entry)) (readService kind (now (apdu .entry)))) meter (now (out .entry)) (now (out .exit)) r) ⌝ }
+    ensures { λ r. ⌜ ((a : Lender) → Hears (asked (lineOf (meter .line)) a client head (now (apdu .entry)) (readService kind (now (apdu .entry)))) meter (now (out .entry)) (now (out .exit)) r) ⌝ }
 {
     let line = meter.line;
     let reading = cosem::read_service(kind, apdu);
@@ -51,19 +51,19 @@ pub fn ask_plain(
             answer_plain(meter, client, head, apdu, Inquiry::Ask(request), out)
         }
         Reading::GoesOn { invoke, number } => {
-            if !association::takes_blocks(line, client) {
-                return joined(except(line, head, Exception::ServiceUnknown, out), meter);
+            if !association::are_blocks_agreed(line, client) {
+                return alone(except(line, head, Exception::ServiceUnknown, out));
             }
             answer_plain(
                 meter,
                 client,
                 head,
                 apdu,
-                Inquiry::Next { invoke, number },
+                Inquiry::GoOn { invoke, number },
                 out,
             )
         }
-        Reading::Malformed => { joined(except(line, head, Exception::ServiceUnknown, out), meter) }
+        Reading::Malformed => { alone(except(line, head, Exception::ServiceUnknown, out)) }
     }
 }
 
@@ -75,23 +75,23 @@ fn answer_plain(
     apdu: &[u8],
     inquiry: Inquiry,
     out: &mut [u8],
-) -> Received
+) -> Heard
     requires { ⌜ Ready meter (now out) ⌝ }
-    ensures { λ r. ⌜ ((ak : List ℕ) → Follows (asks (inquiryIn client (selectiveIn client (lineOf (meter .line))) (blocksIn client (lineOf (meter .line))) (now (apdu .entry)) inquiry) (wrap ak Verification head 0xC0) (lineOf (meter .line))) meter (now (out .entry)) (now (out .exit)) r) ⌝ }
+    ensures { λ r. ⌜ ((ak : List ℕ) → Hears (asks (inquiryIn client (selectiveIn client (lineOf (meter .line))) (blocksIn client (lineOf (meter .line))) (now (apdu .entry)) inquiry) (wrap ak Verification head 0xC0) (lineOf (meter .line))) meter (now (out .entry)) (now (out .exit)) r) ⌝ }
 {
     let line = meter.line;
     let body = meter.body;
     let selective = association::is_selective(line, client);
-    let blocks = association::takes_blocks(line, client);
+    let blocks = association::are_blocks_agreed(line, client);
     let answer = answers::answer(body, client, selective, blocks, apdu, inquiry, out, APDU_AT);
     let size = answer.next - APDU_AT;
     let count = replies::send_plain(out, head, size);
-    let after = answer.body;
-    let next = Meter { line, body: after };
-    Received {
+    let change = answer.change;
+    Heard {
         refusal: answer.refusal,
         count,
-        meter: next,
+        line,
+        change,
     }
 }
 
@@ -104,15 +104,13 @@ pub fn ask_ciphered(
     kind: ServiceKind,
     apdu: &[u8],
     out: &mut [u8],
-) -> Received
+) -> Heard
     requires { ⌜ Ready meter (now out) ⌝ }
-    ensures { λ r. ⌜ Follows (ofCiphering (lineOf (meter .line)) client head (λ c. requestEnclosed (lineOf (meter .line)) secrets c head kind (now (apdu .entry)))) meter (now (out .entry)) (now (out .exit)) r ⌝ }
+    ensures { λ r. ⌜ Hears (ofCiphering (lineOf (meter .line)) client head (λ c. requestEnclosed (lineOf (meter .line)) secrets c head kind (now (apdu .entry)))) meter (now (out .entry)) (now (out .exit)) r ⌝ }
 {
     let line = meter.line;
     match client {
-        Client::Verification => {
-            joined(except(line, head, Exception::ServiceNotAllowed, out), meter)
-        }
+        Client::Verification => { alone(except(line, head, Exception::ServiceNotAllowed, out)) }
         Client::Ciphering(c) => ask_enclosed(meter, secrets, c, head, kind, apdu, out),
     }
 }
@@ -126,9 +124,9 @@ fn ask_enclosed(
     kind: ServiceKind,
     apdu: &[u8],
     out: &mut [u8],
-) -> Received
+) -> Heard
     requires { ⌜ Ready meter (now out) ⌝ }
-    ensures { λ r. ⌜ Follows (requestEnclosed (lineOf (meter .line)) secrets client head kind (now (apdu .entry))) meter (now (out .entry)) (now (out .exit)) r ⌝ }
+    ensures { λ r. ⌜ Hears (requestEnclosed (lineOf (meter .line)) secrets client head kind (now (apdu .entry))) meter (now (out .entry)) (now (out .exit)) r ⌝ }
 {
     let line = meter.line;
     let ak = secrets.ak;
@@ -139,8 +137,8 @@ fn ask_enclosed(
     let mut text = [0u8; LONGEST_APDU];
     let admission = envelope::admit_envelope(keys, title, tag, pair, apdu, &mut text);
     match admission {
-        Admission::Unopened => joined(kept(6, line), meter),
-        Admission::OutsideWindow => joined(drop_association(line, client), meter),
+        Admission::Unopened => alone(kept(6, line)),
+        Admission::OutsideWindow => alone(drop_association(line, client)),
         Admission::Admitted { counter, size } => {
             ask_inside(
                 meter,
@@ -166,9 +164,9 @@ fn ask_inside(
     counter: u32,
     text: &[u8],
     out: &mut [u8],
-) -> Received
+) -> Heard
     requires { ⌜ Ready meter (now out) ⌝ }
-    ensures { λ r. ⌜ FollowsUnder client keys (λ a. askedInside (lineOf (meter .line)) a client head kind counter (now (text .entry)) (readService kind (now (text .entry)))) meter (now (out .entry)) (now (out .exit)) r ⌝ }
+    ensures { λ r. ⌜ HearsUnder client keys (λ a. askedInside (lineOf (meter .line)) a client head kind counter (now (text .entry)) (readService kind (now (text .entry)))) meter (now (out .entry)) (now (out .exit)) r ⌝ }
 {
     let line = meter.line;
     let reading = cosem::read_service(kind, text);
@@ -185,8 +183,8 @@ fn ask_inside(
             out,
         ),
         Reading::GoesOn { invoke, number } => {
-            if !association::takes_blocks(line, Client::Ciphering(client)) {
-                return joined(misread(line, client, head, counter, out), meter);
+            if !association::are_blocks_agreed(line, Client::Ciphering(client)) {
+                return alone(misread(line, client, head, counter, out));
             }
             answer_enclosed(
                 meter,
@@ -196,11 +194,11 @@ fn ask_inside(
                 kind,
                 counter,
                 text,
-                Inquiry::Next { invoke, number },
+                Inquiry::GoOn { invoke, number },
                 out,
             )
         }
-        Reading::Malformed => joined(misread(line, client, head, counter, out), meter),
+        Reading::Malformed => alone(misread(line, client, head, counter, out)),
     }
 }
 
@@ -215,9 +213,9 @@ fn answer_enclosed(
     text: &[u8],
     inquiry: Inquiry,
     out: &mut [u8],
-) -> Received
+) -> Heard
     requires { ⌜ Ready meter (now out) ⌝ }
-    ensures { λ r. ⌜ FollowsUnder client keys (λ a. asks (inquiryIn (Ciphering client) (selectiveIn (Ciphering client) (lineOf (meter .line))) (blocksIn (Ciphering client) (lineOf (meter .line))) (now (text .entry)) inquiry) (wrap (a .ak) (Ciphering client) head (dedicatedTag kind)) (advanced client (accepted client counter (lineOf (meter .line))))) meter (now (out .entry)) (now (out .exit)) r ⌝ }
+    ensures { λ r. ⌜ HearsUnder client keys (λ a. asks (inquiryIn (Ciphering client) (selectiveIn (Ciphering client) (lineOf (meter .line))) (blocksIn (Ciphering client) (lineOf (meter .line))) (now (text .entry)) inquiry) (wrap (a .ak) (Ciphering client) head (dedicatedTag kind)) (advanced client (accepted client counter (lineOf (meter .line))))) meter (now (out .entry)) (now (out .exit)) r ⌝ }
 {
     let line = meter.line;
     let body = meter.body;
@@ -228,20 +226,17 @@ fn answer_enclosed(
     let next = association::with_counters(line, client, taken.counters);
     let asking = Client::Ciphering(client);
     let selective = association::is_selective(line, asking);
-    let blocks = association::takes_blocks(line, asking);
+    let blocks = association::are_blocks_agreed(line, asking);
     let answer = answers::answer(body, asking, selective, blocks, text, inquiry, out, TEXT_AT);
     let size = answer.next - TEXT_AT;
     let title = line.title;
     let tag = cosem::answer_tag(kind);
     let count = replies::send_enclosed(out, head, keys, title, tag, number, size);
-    let after = answer.body;
-    let changed = Meter {
-        line: next,
-        body: after,
-    };
-    Received {
+    let change = answer.change;
+    Heard {
         refusal: answer.refusal,
         count,
-        meter: changed,
+        line: next,
+        change,
     }
 }

@@ -169,7 +169,7 @@ pub fn is_selective(line: LineState, client: Client) -> bool
 }
 
 // Whether block transfer is agreed.
-pub fn takes_blocks(line: LineState, client: Client) -> bool
+pub fn are_blocks_agreed(line: LineState, client: Client) -> bool
     ensures { λ r. ⌜ r ≡ blocksIn client (lineOf line) ⌝ }
 {
     let agreed = agreed_in(line, client);

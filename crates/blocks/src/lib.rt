@@ -1,5 +1,6 @@
 // A block of a long answer, written: its head with its number, and its stretch of the data, which are worked out anew from the rows. A
 // refusal of a request for a block has the same head.
+use model::BLOCK_ROOM;
 ghost use mathlib.Core.Path.{_≡_};
 ghost use mathlib.Core.Bool.{cond};
 ghost use mathlib.Core.List.{_∷_};
@@ -17,9 +18,6 @@ pub struct Block {
     pub next: usize,
     pub last: bool,
 }
-
-// The data of a full block: the model's blockRoom of the longest information that is sent.
-const BLOCK_ROOM: usize = 732;
 
 // Block k of the data, counted from 1, which begins no later than they end. That k is small keeps the place of its first byte a number.
 pub fn put_block(out: &mut [u8], at: usize, invoke: u8, k: u32, text: &[u8]) -> Block

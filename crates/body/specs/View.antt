@@ -10,7 +10,7 @@ use Rattle.model.specs.Names.{every}
 use Rattle.model.specs.Clocks.{validClock}
 use Rattle.model.specs.Periods.{permittedPeriod}
 use Rattle.model.specs.State.{Body, newMeter}
-use Rattle.model.specs.Soundness.{acceptedRegisters, acceptedColumns, goesOn}
+use Rattle.model.specs.Soundness.{acceptedRegisters, acceptedColumns, rowsAllow}
 use Rattle.store.specs.Lists.{registersOf, columnsOf, entriesOf}
 use Rattle.picks.specs.Transfers.{transferOf}
 use Rattle.body.specs.declared.BodyState.{BodyState}
@@ -43,7 +43,7 @@ bodySound b =
     acceptedRegisters (b .store .registers)
     && (acceptedColumns (b .store .registers) (b .store .columns)
     && (permittedPeriod (b .period)
-    && (validClock (b .clock) && (rowsSound (length (b .store .columns)) b && goesOn (b .store) (b .transfer)))))
+    && (validClock (b .clock) && (rowsSound (length (b .store .columns)) b && rowsAllow (b .store) (b .transfer)))))
 
 -- what a sound body lets its functions count on: counts are within their arrays, and the period is no zero
 pub record Fit (b : BodyState) : Type 0 where

@@ -18,7 +18,7 @@ use Rattle.model.specs.Clocks.{validClock}
 use Rattle.model.specs.Periods.{permittedPeriod}
 use Rattle.model.specs.Selecting.{Selection, all, selected, rangeSelector}
 use Rattle.model.specs.State.{Transfer, idle, running, ended, Line, Body, Model}
-use Rattle.model.specs.Soundness.{acceptedRegisters, acceptedColumns, kindsKnown, linksStand, servicesOffered, allowed, goesOn, soundnessTests}
+use Rattle.model.specs.Soundness.{acceptedRegisters, acceptedColumns, kindsKnown, linksStand, servicesOffered, allowed, rowsAllow, soundnessTests}
 use Rattle.model.specs.Objects.{Meaning, meaning, Service, get, action, Request, Result, granted, begun, denied, attributeRead, methodInvoked}
 use Rattle.model.specs.Calls.{Lent}
 use Rattle.hdlc.specs.declared.Frame.{Frame}
@@ -207,7 +207,7 @@ lineStateFinds l =
     (cond (not (linksStand l)) (unsound AssociationOnLink) (cond (not (servicesOffered l)) (unsound AgreedServices) Passes))
 
 unfoldable pub transferFinds : Line → Body → Finding
-transferFinds l b = cond (not (allowed l (b .transfer) && goesOn (b .store) (b .transfer))) (unsound TransferPossible) Passes
+transferFinds l b = cond (not (allowed l (b .transfer) && rowsAllow (b .store) (b .transfer))) (unsound TransferPossible) Passes
 
 unfoldable pub roadFinds : Model → Lent → Finding
 roadFinds m a =

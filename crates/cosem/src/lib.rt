@@ -8,8 +8,6 @@ mod tags;
 use model::Clock;
 pub use request::name_in;
 pub use request::read_action;
-pub use request::read_get;
-pub use request::read_next;
 pub use request::read_service;
 pub use shapes::entries_at;
 pub use shapes::is_integer_at;

@@ -13,7 +13,7 @@ ghost use Prim.Native.Nat.{_<_};
 ghost use Rattle.cosem.specs.Requests.{asking, askingWith, byte, lastValue, nameIn, optionalPart, readAction, readGet, readGets, readNext, readService};
 
 // A GET request.
-pub fn read_get(apdu: &[u8]) -> Reading
+fn read_get(apdu: &[u8]) -> Reading
     ensures { λ r. ⌜ r ≡ readGet (now (apdu .entry)) ⌝ }
 {
     let attribute = byte_of(apdu, 11);
@@ -37,7 +37,7 @@ pub fn read_get(apdu: &[u8]) -> Reading
 }
 
 // A request for the next block.
-pub fn read_next(apdu: &[u8]) -> Reading
+fn read_next(apdu: &[u8]) -> Reading
     ensures { λ r. ⌜ r ≡ readNext (now (apdu .entry)) ⌝ }
 {
     let End::At(_) = wire::expect_at(apdu, 0, b"\xC0\x02") else {

@@ -49,11 +49,11 @@ pub fn ask(meter: Meter, client: Client, kind: ServiceKind, apdu: &[u8]) -> Find
     match reading {
         Reading::Asks(request) => {
             let selective = association::is_selective(line, client);
-            let blocks = association::takes_blocks(line, client);
+            let blocks = association::are_blocks_agreed(line, client);
             find_in_request(body, client, selective, blocks, apdu, request)
         }
         Reading::GoesOn { invoke: _, number } => {
-            if !association::takes_blocks(line, client) {
+            if !association::are_blocks_agreed(line, client) {
                 return of_line(LineTest::MalformedApdu);
             }
             let transfer = body.transfer;

@@ -126,7 +126,7 @@ fn find_in_transfer(line: LineState, body: BodyState) -> Finding
     }
     let rows = body.rows;
     let columns = body.columns;
-    if !picks::goes_on(rows, columns.count, transfer) {
+    if !picks::rows_allow(rows, columns.count, transfer) {
         return of_state(SoundnessTest::TransferPossible);
     }
     Finding::Passes

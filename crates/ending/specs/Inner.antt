@@ -19,6 +19,8 @@ use Rattle.material.specs.Material.{keysOf}
 use Rattle.line.specs.declared.LineState.{LineState}
 use Rattle.line.specs.View.{lineOf}
 use Rattle.body.specs.declared.BodyState.{BodyState}
+use Rattle.body.specs.declared.Change.{Change}
+use Rattle.body.specs.Change.{changedBy}
 use Rattle.meter.specs.declared.Meter.{Meter}
 use Rattle.meter.specs.View.{view}
 use Rattle.protocol.specs.declared.Secrets.{Secrets}
@@ -29,6 +31,7 @@ use Rattle.protocol.specs.Outcomes.{keeping}
 use Rattle.replies.specs.Room.{HasRoom}
 use Rattle.ending.specs.declared.Received.{Received}
 use Rattle.ending.specs.declared.Told.{Told}
+use Rattle.ending.specs.declared.Heard.{Heard}
 use Rattle.ending.specs.Handed.{handed, LeavesNothing}
 
 -- the structs that are handed back, and a meter, by their parts
@@ -38,8 +41,15 @@ received n k m = record { refusal = n; count = k; meter = m }
 abbrev pub told : (refusal count : ℕ) → LineState → Told
 told n k l = record { refusal = n; count = k; line = l }
 
+abbrev pub heardOf : (refusal count : ℕ) → LineState → Change → Heard
+heardOf n k l c = record { refusal = n; count = k; line = l; change = c }
+
 abbrev pub meterWith : LineState → BodyState → Meter
 meterWith l b = record { line = l; body = b }
+
+-- what comes back of what was heard, on a meter: its line becomes that line, and its body is changed
+abbrev pub carriedOut : Meter → Heard → Received
+carriedOut m h = received (h .refusal) (h .count) (meterWith (h .line) (changedBy (h .change) (m .body)))
 
 -- what a function within the call may take for granted: a sound meter, and a buffer with reply room
 abbrev pub Ready : Meter → (out : List ℕ) → Type 0
@@ -50,6 +60,10 @@ pub record Follows (x : Ruling) (m : Meter) (l o : List ℕ) (r : Received) : Ty
   pub gave : Gave Meter view (decided p2 (decision x) (view m)) (handed r l o)
   pub kept : listed (r .refusal) keeping ≡ true → r .meter ≡ m
   pub wiped : LeavesNothing m (r .meter)
+
+-- the same of a function that leaves it to its caller to carry out what was heard
+abbrev pub Hears : Ruling → Meter → (before after : List ℕ) → Heard → Type 0
+Hears x m l o h = Follows x m l o (carriedOut m h)
 
 -- the same of a function that has the line alone: whatever body stands beside it, it is as it was
 abbrev pub Tells : Ruling → LineState → (before after : List ℕ) → Told → Type 0
@@ -65,8 +79,8 @@ abbrev pub TellsUnder : ReadyKeys → (Secrets → Ruling) → LineState → (be
 TellsUnder k x line l o r = (a : Secrets) → TellsWith k a (x a) line l o r
 
 -- and of requests, where they are those of the association
-abbrev pub FollowsUnder : CipherClient → ReadyKeys → (Secrets → Ruling) → Meter → (before after : List ℕ) → Received → Type 0
-FollowsUnder c k x m l o r = (a : Secrets) → keysOf k ≡ dedicatedKeys (a .ak) c (lineOf (m .line)) → Follows (x a) m l o r
+abbrev pub HearsUnder : CipherClient → ReadyKeys → (Secrets → Ruling) → Meter → (before after : List ℕ) → Heard → Type 0
+HearsUnder c k x m l o h = (a : Secrets) → keysOf k ≡ dedicatedKeys (a .ak) c (lineOf (m .line)) → Hears (x a) m l o h
 
 -- both lines have the same associations
 abbrev pub SameAssociations : Line → Line → Type 0

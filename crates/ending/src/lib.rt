@@ -1,4 +1,5 @@
-// How the line answers: as it was, as another, or with an exception; and the meter that has what it became.
+// How a frame call ends: what the line answers by itself, as it was, as another or with an exception; and what becomes of the body.
+use body::Change;
 use cosem::Exception;
 use hdlc::Head;
 use line::LineState;
@@ -11,11 +12,12 @@ ghost use Prim.Native.Nat.{ℕ};
 ghost use Rattle.model.specs.State.{none};
 ghost use Rattle.model.specs.declared.Client.the-variants.{Ciphering};
 ghost use Rattle.line.specs.View.{lineOf};
+ghost use Rattle.body.specs.Change.{unchanging};
 ghost use Rattle.protocol.specs.Clients.{associates};
 ghost use Rattle.protocol.specs.Rulings.{nothing, outsideWindow, refusedMalformed, says};
 ghost use Rattle.protocol.specs.Decide.{accepted};
 ghost use Rattle.replies.specs.Room.{HasRoom};
-ghost use Rattle.ending.specs.Inner.{Excepts, meterWith, received, Tells, told};
+ghost use Rattle.ending.specs.Inner.{Excepts, Tells, heardOf, told};
 
 // What a frame call hands back: the number of its refusal, or 0, how many bytes of the reply room go out, and the meter.
 pub struct Received {
@@ -24,7 +26,15 @@ pub struct Received {
     pub meter: Meter,
 }
 
-// What the line answers by itself: the same, with the line. No register, row or clock has a part in it.
+// What a frame comes to: the number, the count, the line, and what becomes of the body.
+pub struct Heard {
+    pub refusal: u8,
+    pub count: usize,
+    pub line: LineState,
+    pub change: Change,
+}
+
+// What the line answers by itself: the same, without the body. No register, row or clock has a part in it.
 pub struct Told {
     pub refusal: u8,
     pub count: usize,
@@ -70,17 +80,16 @@ pub fn misread(
     except(next, head, Exception::ServiceUnknown, out)
 }
 
-// What the line answered, with the meter: its body is as it was.
-pub fn joined(answer: Told, meter: Meter) -> Received
-    ensures { λ r. ⌜ r ≡ received (answer .refusal) (answer .count) (meterWith (answer .line) (meter .body)) ⌝ }
+// What the line answered by itself: the body is as it was.
+pub fn alone(answer: Told) -> Heard
+    ensures { λ r. ⌜ r ≡ heardOf (answer .refusal) (answer .count) (answer .line) unchanging ⌝ }
 {
     let line = answer.line;
-    let body = meter.body;
-    let next = Meter { line, body };
-    Received {
+    Heard {
         refusal: answer.refusal,
         count: answer.count,
-        meter: next,
+        line,
+        change: body::unchanged(),
     }
 }
 

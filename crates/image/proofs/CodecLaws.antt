@@ -9,7 +9,7 @@ use native.Mathlib.Omega.{arith}
 use lib.Dec.{eqb, ltb}
 use lib.ListN.{length, take, drop, getD, replicate, length-append, length-drop, length-replicate}
 use lib.Seq.{take-at, drop-at, drop-drop, take-add, getD-drop, length-take-le}
-use borrow.Author.Tests.{ltb-true}
+use borrow.Author.Tests.{eq-eqb, ne-eqb, ltb-true}
 use Rattle.wire.specs.Numbers.{highFirst, numberHigh}
 use Rattle.wire.specs.Reading.{filled}
 use Rattle.wire.proofs.NumberLaws.{Bytes, length-high, high-number, high-bytes}
@@ -137,6 +137,17 @@ kind-lawful = one-of-lawful kindByte Whole Dated Numbered kind-told refl refl re
 -- the byte at a place
 pub at-front : (s : List ℕ) (at : ℕ) → getD (drop at s) 0 0 ≡ getD s at 0
 at-front s at = rw (getD-drop at s 0 0, add-zero at)
+
+-- one of three, by what was found of the byte there
+module _ {A : Type 0} (f : A → ℕ) (x y z : A) (s : List ℕ) (at : ℕ) where
+  pub first-of : getD s at 0 ≡ 0 → Got (oneOf f x y z) s at x
+  first-of e = record { is = rw (at-front s at, eq-eqb _ _ e) }
+
+  pub second-of : (getD s at 0 ≡ 0 → ⊥) → getD s at 0 ≡ 1 → Got (oneOf f x y z) s at y
+  second-of n e = record { is = rw (at-front s at, ne-eqb _ _ n, eq-eqb _ _ e) }
+
+  pub third-of : (getD s at 0 ≡ 0 → ⊥) → (getD s at 0 ≡ 1 → ⊥) → Got (oneOf f x y z) s at z
+  third-of n k = record { is = rw (at-front s at, ne-eqb _ _ n, ne-eqb _ _ k) }
 
 -- One after the other.
 

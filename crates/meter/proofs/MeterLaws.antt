@@ -11,7 +11,7 @@ use Rattle.model.specs.Clocks.{validClock}
 use Rattle.model.specs.Periods.{permittedPeriod}
 use Rattle.model.specs.declared.SoundnessTest.the-variants.{RegisterList, ColumnList, PeriodPermitted, ClockValid, RowClocksValid, RowCount, RowCells, AssociationKind, AssociationOnLink, AgreedServices}
 use Rattle.model.specs.State.{broken}
-use Rattle.model.specs.Soundness.{passes, acceptedRegisters, acceptedColumns, allowed, goesOn, sound, lineSound}
+use Rattle.model.specs.Soundness.{passes, acceptedRegisters, acceptedColumns, allowed, rowsAllow, sound, lineSound}
 use Rattle.model.specs.Calls.{OwnerCall, owner, giveRegisters, setValue, setColumns, setPeriod, tick, setP5, powerUp, refused, done, Protocol, ticked, poweredLine, act, step}
 use Rattle.model.proofs.ListLaws.{both}
 use Rattle.store.specs.declared.Registers.{Registers}
@@ -47,7 +47,7 @@ sound-is m =
     regroup (passes RegisterList (view m)) (passes ColumnList (view m)) (passes PeriodPermitted (view m)) (passes ClockValid (view m))
     (passes RowClocksValid (view m)) (passes RowCount (view m)) (passes RowCells (view m)) (passes AssociationKind (view m))
     (passes AssociationOnLink (view m)) (passes AgreedServices (view m)) (allowed (view m .line) (view m .body .transfer))
-    (goesOn (view m .body .store) (view m .body .transfer))
+    (rowsAllow (view m .body .store) (view m .body .transfer))
 
 pub sound-body : (m : Meter) → sound (view m) ≡ true → bodySound (bodyOf (m .body)) ≡ true
 sound-body m s = both (bodySound (bodyOf (m .body))) _ (sym (sound-is m) ∙ s) .0

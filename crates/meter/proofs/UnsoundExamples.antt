@@ -12,7 +12,7 @@ use Rattle.model.specs.Periods.{periods}
 use Rattle.model.specs.Services.{within}
 use Rattle.model.specs.Selecting.{goodRange}
 use Rattle.model.specs.Objects.{rowData, rowsData, entriesWrong, entries}
-use Rattle.model.specs.Soundness.{acceptedRegisters, acceptedColumns, allowed, goesOn, sound}
+use Rattle.model.specs.Soundness.{acceptedRegisters, acceptedColumns, allowed, rowsAllow, sound}
 use Rattle.model.specs.Calls.{OwnerCall, step}
 use Rattle.store.specs.Lists.{registersOf, columnsOf, entriesOf}
 use Rattle.picks.specs.Transfers.{pickingOf, transferOf}
@@ -26,7 +26,7 @@ use Rattle.meter.specs.Unsound.{Verdict, soundMeter, longMeters, unsound
 use Rattle.meter.proofs.OwnedLaws.{owned-refusal}
 
 pub verdicts-right : VerdictsRight
-unfolding soundMeter longMeters unsoundMeters sixteenRows view lineOf bodyOf registersOf columnsOf entriesOf transferOf pickingOf sound allowed goesOn acceptedRegisters acceptedColumns validClock realDate realTime fixedBytes daysIn februaryDays periods within sameBytes goodRange later inRange moment dayNumber daysOfYears daysOfMonths entries entriesWrong rowsData rowData flatMap lengthField longestSent dataRoom blockRoom greatestBlock blockLength textRoom greatestText envelopeLength apduRoom maxRows maxRegisters maxColumns
+unfolding soundMeter longMeters unsoundMeters sixteenRows view lineOf bodyOf registersOf columnsOf entriesOf transferOf pickingOf sound allowed rowsAllow acceptedRegisters acceptedColumns validClock realDate realTime fixedBytes daysIn februaryDays periods within sameBytes goodRange later inRange moment dayNumber daysOfYears daysOfMonths entries entriesWrong rowsData rowData flatMap lengthField longestSent dataRoom blockRoom greatestBlock blockLength textRoom greatestText envelopeLength apduRoom maxRows maxRegisters maxColumns
 verdicts-right = record { sound = refl; long = refl; unsound = refl; sixteen = refl }
 
 -- Refusal 3.

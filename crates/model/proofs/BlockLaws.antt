@@ -1,7 +1,7 @@
 -- Blocks of answers: what a block has room for, over any limit of the link, and how long an answer is; parts of a list, over any width,
 -- and with them that the blocks joined are the data.
 use mathlib.Core.Path.{_≡_, refl, sym, _∙_, ap}
-use mathlib.Core.Bool.{true, false, cond}
+use mathlib.Core.Bool.{Bool, true, false, cond}
 use mathlib.Core.List.{List, [], _∷_, _++_}
 use Prim.Native.Nat.{ℕ, zero, suc, _+_, _-_, _*_, _≤_, _<_}
 use native.Mathlib.Omega.{arith}
@@ -9,7 +9,7 @@ use native.Mathlib.Nat.{mul-zero, mul-suc, mul-add}
 use lib.ListN.{length, take, drop, getD, length-append, length-take, length-drop, take-append-drop}
 use lib.Seq.{take-all, take-add, drop-drop, drop-append-seam}
 use lib.Dec.{leb, lit<}
-use borrow.Author.Tests.{leb-true, leb-false}
+use borrow.Author.Tests.{lt-leb, leb-true, leb-false}
 use Rattle.wire.specs.Numbers.{highFirst, lengthField}
 use Rattle.wire.proofs.NumberLaws.{length-high}
 use Rattle.wire.proofs.ReadingLaws.{by-order}
@@ -168,6 +168,19 @@ module _ {A : Type 0} (w : ℕ) where
 pub block-part : (k : ℕ) (d : List ℕ) → block k d ≡ part (blockRoom longestSent) k d
 unfolding block
 block-part k d = refl
+
+-- data too long for one frame are more than their first block
+pub first-more : (d : List ℕ) → dataRoom longestSent < length d → isLast 1 d ≡ false
+unfolding isLast
+first-more d h = lt-leb (length d) (blockRoom longestSent * 1) (omega (arith, less-room longestSent))
+
+-- which goes out so
+pub first-bytes : (i : ℕ) (d : List ℕ) → dataRoom longestSent < length d → blockAnswer i 1 d ≡ blockBytes i 0x00 1 (block 1 d)
+first-bytes i d h = answer-bytes i 1 d ∙ ap (λ (z : Bool). blockBytes i (cond z 0x01 0x00) 1 (block 1 d)) (first-more d h)
+
+pub first-block : (d : List ℕ) → block 1 d ≡ take (blockRoom longestSent) d
+unfolding block
+first-block d = rw mul-zero
 
 -- "the blocks joined are exactly the data"
 pub blocks-join : (n : ℕ) (d : List ℕ) → isLast n d ≡ true → parts (blockRoom longestSent) n 0 d ≡ d

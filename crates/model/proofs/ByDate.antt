@@ -15,10 +15,10 @@ use Rattle.model.specs.declared.Clock.{Clock}
 use Rattle.model.specs.Limits.{longestSent, dataRoom}
 use Rattle.model.specs.Names.{every}
 use Rattle.model.specs.Clocks.{clockData, inRange}
-use Rattle.model.specs.Selecting.{all, selected, Picking, whole, dated, picking, rangeSelector, noColumns, rangeDescriptor, isRangeDescriptor, fromClock, toClock, goodRange, describedRange, described}
+use Rattle.model.specs.Selecting.{Selection, all, selected, Picking, whole, dated, picking, rangeSelector, noColumns, rangeDescriptor, isRangeDescriptor, fromClock, toClock, goodRange, describedRange, described}
 use Rattle.model.specs.State.{Entry, profile, running, Body}
-use Rattle.model.specs.Objects.{ask, granted, begun, denied, rowsWithin, rowsData, attributeData, fitting, attributeRead, turned}
-use Rattle.model.specs.ByDate.{RangesDescribed, NoOtherRange, Kept, done, taken, left, KeptWithin, profileRequest, readTurn, rowsResult, RangeReads, NoneInRange, SameAnswer, AllInRange, BothKept, OtherShape, BadRange, OtherSelector, NotAgreed}
+use Rattle.model.specs.Objects.{ask, granted, begun, denied, rowsWithin, rowsData, attributeData, these, picked, fitting, attributeRead, turned}
+use Rattle.model.specs.ByDate.{RangesDescribed, NoOtherRange, Kept, done, taken, left, KeptWithin, profileAsked, profileRequest, readTurn, rowsResult, RangeReads, NoneInRange, SameAnswer, AllInRange, BothKept, OtherShape, BadRange, OtherSelector, NotAgreed}
 use Rattle.model.proofs.LimitFacts.{data-room}
 use Rattle.model.proofs.ListLaws.{both}
 
@@ -85,10 +85,21 @@ unfolding described describedRange
 range-described from to f t g =
     let d = ranges-described from to f t in rw (d .is, d .first, d .last, g)
 
+-- and what none comes to
+pub whole-described : (belongs : Bool) → described belongs all ≡ picking whole
+unfolding described
+whole-described belongs = refl
+
+-- a GET whose selection means a picking that gives these rows
+pub picked-turned : (selective blocks : Bool) (i : ℕ) (s : Selection) (p : Picking) (rs : List Entry) (b : Body) → described selective s ≡ picking p → picked p (b .store .rows) ≡ these rs
+    → turned (ask (profileAsked selective blocks i s)) b ≡ readTurn i (rowsResult blocks p rs) b
+unfolding turned attributeRead attributeData sameBytes
+picked-turned selective blocks i s p rs b e f = rw (e, f)
+
 pub range-turned : (blocks : Bool) (i : ℕ) (from to : Clock) (b : Body) → length (from .bytes) ≡ 12 → length (to .bytes) ≡ 12 → goodRange from to ≡ true
     → turned (ask (profileRequest blocks i (selected rangeSelector (rangeDescriptor from to)))) b ≡ readTurn i (rowsResult blocks (dated from to) (rowsWithin from to (b .store .rows))) b
-unfolding turned attributeRead attributeData sameBytes
-range-turned blocks i from to b f t g = rw (range-described from to f t g)
+range-turned blocks i from to b f t g =
+    picked-turned true blocks i (selected rangeSelector (rangeDescriptor from to)) (dated from to) (rowsWithin from to (b .store .rows)) b (range-described from to f t g) refl
 
 pub range-reads : RangeReads
 range-reads blocks i from to b f t g =
@@ -116,8 +127,7 @@ none-in-range blocks i from to b f t g e =
 
 -- a read of all rows
 pub whole-turned : (blocks : Bool) (i : ℕ) (b : Body) → turned (ask (profileRequest blocks i all)) b ≡ readTurn i (rowsResult blocks whole (b .store .rows)) b
-unfolding turned attributeRead attributeData sameBytes described
-whole-turned blocks i b = refl
+whole-turned blocks i b = picked-turned true blocks i all whole (b .store .rows) b (whole-described true) refl
 
 -- the transfer that would begin has no part in an answer
 same-rows : (blocks : Bool) (i : ℕ) (p q : Picking) (rs : List Entry) (b : Body) → SameAnswer (readTurn i (rowsResult blocks p rs) b) (readTurn i (rowsResult blocks q rs) b)

@@ -17,7 +17,7 @@ use Rattle.model.specs.Selecting.{Picking, whole, numbered, dated}
 use Rattle.model.specs.State.{Entry, Store, Long, profile, Transfer, idle, running, ended, Body, Model, withCells}
 use Rattle.model.specs.declared.SoundnessTest.{SoundnessTest}
 use Rattle.model.specs.declared.SoundnessTest.the-variants.{RegisterList, ColumnList, PeriodPermitted, ClockValid, RowClocksValid, RowCount, RowCells, AssociationKind, AssociationOnLink, AgreedServices, TransferPossible}
-use Rattle.model.specs.Soundness.{passes, acceptedRegisters, acceptedColumns, allowed, areRows, goodPicking, couldGrant, goesOn, soundnessTests, sound}
+use Rattle.model.specs.Soundness.{passes, acceptedRegisters, acceptedColumns, allowed, rowsAllow, soundnessTests, sound}
 use Rattle.model.specs.Objects.{unsigned16, unsigned32, rowData, rowsData, Picked, these, wrong, entriesWrong, lastEntry, rowsBetween, entries, rowsWithin, picked, pickedRows, longData}
 use Rattle.model.specs.Calls.{cellsNow, rowNow}
 use Rattle.model.specs.Demand3.{Chosen, hide, hideRegister, hideCells, hideEntry, hideStore, hideBody, hidden, anyChosen}
@@ -212,19 +212,11 @@ module _ (ch : Chosen) where
 
   -- whether more blocks come
 
-  are-rows : (cs : List Name) (w : Picked) → areRows (hidePicked cs w) ≡ areRows w
-  are-rows cs (these rs) = refl
-  are-rows cs (wrong c) = refl
-
-  could-grant : (x : Long) (s : Store) → couldGrant x (hideStore ch s) ≡ couldGrant x s
-  could-grant (profile p) s =
-      ap (_&&_ (goodPicking p)) (ap areRows (picked-hidden (s .columns) p (s .rows)) ∙ are-rows (s .columns) (picked p (s .rows)))
-
-  goes-on-hidden : (s : Store) (t : Transfer) → goesOn (hideStore ch s) t ≡ goesOn s t
-  unfolding goesOn
-  goes-on-hidden s idle = refl
-  goes-on-hidden s (running x k) = rw (could-grant x s, long-length x s)
-  goes-on-hidden s ended = refl
+  rows-allow-hidden : (s : Store) (t : Transfer) → rowsAllow (hideStore ch s) t ≡ rowsAllow s t
+  unfolding rowsAllow
+  rows-allow-hidden s idle = refl
+  rows-allow-hidden s (running x k) = rw (long-length x s)
+  rows-allow-hidden s ended = refl
 
   -- soundness sees no value
 
@@ -249,7 +241,7 @@ module _ (ch : Chosen) where
   passes-hidden AssociationKind m = refl
   passes-hidden AssociationOnLink m = refl
   passes-hidden AgreedServices m = refl
-  passes-hidden TransferPossible m = ap (_&&_ (allowed (m .line) (m .body .transfer))) (goes-on-hidden (m .body .store) (m .body .transfer))
+  passes-hidden TransferPossible m = ap (_&&_ (allowed (m .line) (m .body .transfer))) (rows-allow-hidden (m .body .store) (m .body .transfer))
 
   pub sound-hidden : (m : Model) → sound (hidden ch m) ≡ sound m
   unfolding sound

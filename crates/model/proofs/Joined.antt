@@ -20,7 +20,7 @@ use Rattle.model.specs.State.{Line, Entry, Store, profile, Transfer, idl
 use Rattle.model.specs.Objects.{Simple, clock, time, date, device, Content, simple, rows, recordNumber, register, Meaning, known, unknown, meaning, serves, get, Request, ask, goOn, Result, granted, begun, denied, unsigned32, rowData, rowsData, simpleData, valueData, scalerData, attributeData, Picked, these, wrong, entriesWrong, entries, picked, pickedBy, takesSelector, begins, fitting, shown, attributeRead, block, isLast, blockAnswer, pickedRows, longData, wentOut, Turn, getAnswer, afterRead, transferAfter, turned}
 use Rattle.model.specs.Soundness.{allowed}
 use Rattle.model.specs.Calls.{Call, Outcome, serve, Protocol, decided, keptBy, settles, act, step}
-use Rattle.model.specs.Blocks.{blockBytes, FirstBlock, NextBlock, AllButLastFull, Fetches, last, more, between, JoinedAreTheData, Measured, NeverTooLong, answeredBy, TransferAfter, stopped, unmoved, moved, began, ThreeBlocks, SixteenColumns}
+use Rattle.model.specs.Blocks.{blockBytes, FirstBlock, NextBlock, AllButLastFull, Fetches, last, more, between, JoinedAreTheData, Measured, NeverTooLong, answeredBy, LeftOfTransfer, stopped, unmoved, moved, began, ThreeBlocks, SixteenColumns}
 use Rattle.model.specs.ByDate.{readTurn}
 use Rattle.model.proofs.LimitFacts.{data-room, block-room}
 use Rattle.model.proofs.ListLaws.{both, both-true, by-test}
@@ -109,7 +109,7 @@ come-rows s z ended e = refl
 rows-as-they-were : (p : Protocol) (c : Call) (m : Model) → runs (step p c m .next .body .transfer) ≡ true → step p c m .next .body .store .rows ≡ m .body .store .rows
 rows-as-they-were p c m r = go (transfers-are-reads p c m)
   where
-    go : TransferAfter p c m (step p c m) → step p c m .next .body .store .rows ≡ m .body .store .rows
+    go : LeftOfTransfer p c m (step p c m) → step p c m .next .body .store .rows ≡ m .body .store .rows
     go (stopped e) = absurd (false≢true (sym e ∙ r))
     go (unmoved e f) = ap (λ (t : List Entry × List Name). t .0) f
     go (moved x k piece e f g h) = ap (λ (t : List Entry × List Name). t .0) g

@@ -18,6 +18,7 @@ pub mod Transfers
 pub mod AllowedNumbers
 pub mod ByDate
 pub mod Joined
+pub mod Possible
 pub mod MomentLaws
 pub mod ClockOrder
 pub mod ClientLaws

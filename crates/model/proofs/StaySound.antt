@@ -6,22 +6,22 @@ use Prim.Native.Nat.{ℕ, zero, suc, _+_, _*_, _≤_}
 use native.Mathlib.Omega.{arith}
 use lib.ListN.{length, take, length-map, length-set, length-take}
 use lib.Seq.{map-set-same}
-use lib.Dec.{eqb, ltb, leb}
-use borrow.Author.Tests.{eqb-true, eq-eqb, le-leb, leb-false, lt-ltb}
+use lib.Dec.{eqb, leb}
+use borrow.Author.Tests.{eqb-true, eq-eqb, le-leb, leb-false}
 use Rattle.model.specs.declared.Name.{Name}
 use Rattle.model.specs.declared.Clock.{Clock}
 use Rattle.model.specs.declared.Client.{Client}
 use Rattle.model.specs.declared.Client.the-variants.{Verification, Ciphering}
 use Rattle.model.specs.declared.CipherClient.the-variants.{Han}
 use Rattle.model.specs.declared.Register.{Register}
-use Rattle.model.specs.Limits.{longestSent, dataRoom, blockRoom, maxRows, maxRegisters, maxColumns}
+use Rattle.model.specs.Limits.{longestSent, blockRoom, maxRows, maxRegisters, maxColumns}
 use Rattle.model.specs.Names.{every, bearing, blankRegister, place, assigned, nameOf}
 use Rattle.model.specs.Clocks.{validClock, realDate, realTime, fixedBytes, daysIn, februaryDays}
 use Rattle.model.specs.Periods.{periods, permittedPeriod, captureDue}
 use Rattle.model.specs.State.{Line, Entry, Store, Long, profile, Transfer, idle, running, ended, broken, Body, Model, withLine, withBody, withTransfer, withOtherRows, keeping, withRows, withRegisters, withClock, withNumber, withPeriod, withP5, newMeter}
 use Rattle.model.specs.declared.SoundnessTest.{SoundnessTest}
 use Rattle.model.specs.declared.SoundnessTest.the-variants.{RegisterList, ColumnList, PeriodPermitted, ClockValid, RowClocksValid, RowCount, RowCells, AssociationKind, AssociationOnLink, AgreedServices, TransferPossible}
-use Rattle.model.specs.Soundness.{passes, acceptedRegisters, acceptedColumns, kindsKnown, linksStand, servicesOffered, lineSound, takesBlocks, couldAsk, allowed, couldGrant, goesOn, sound}
+use Rattle.model.specs.Soundness.{passes, acceptedRegisters, acceptedColumns, kindsKnown, linksStand, servicesOffered, lineSound, takesBlocks, couldAsk, allowed, rowsAllow, sound}
 use Rattle.model.specs.Selecting.{whole, numbered, dated}
 use Rattle.model.specs.Objects.{Content, simple, rows, recordNumber, register, Meaning, known, unknown, meaning, Service, get, action, Inquiry, ask, goOn, Result, granted, begun, denied, attributeRead, methodInvoked, afterMethod, isLast, longData, wentOut, Turn, transferAfter, afterRead, afterAction, answered, continued, turned}
 use Rattle.model.specs.Calls.{Call, frame, owner, OwnerCall, ownRefusal, obeyed, giveRegisters, setValue, setColumns, setPeriod, tick, setP5, powerUp, Outcome, Decision, answer, serve, Protocol, decided, settled, nextNumber, rowNow, captured, ticked, withAssigned, poweredLine, act, early, step}
@@ -29,10 +29,10 @@ use Rattle.model.specs.Archive.{NewMeterSound, lineAfter, KeepsLines, St
 use Rattle.model.proofs.ListLaws.{both, both-true, by-test, every-anywhere, passed}
 use Rattle.model.proofs.SoundnessLaws.{sound-passes, sound-from}
 use Rattle.model.proofs.BlockLaws.{less-room}
-use Rattle.model.proofs.TransferLaws.{Begun, read-begins}
+use Rattle.model.proofs.TransferLaws.{going, goes, Begun, read-begins}
 
 pub new-meter-sound : NewMeterSound
-unfolding sound newMeter acceptedRegisters acceptedColumns validClock realDate realTime fixedBytes daysIn februaryDays periods maxRows maxRegisters maxColumns allowed goesOn
+unfolding sound newMeter acceptedRegisters acceptedColumns validClock realDate realTime fixedBytes daysIn februaryDays periods maxRows maxRegisters maxColumns allowed rowsAllow
 new-meter-sound d t v h = refl
 
 -- The tests on the store, on the body and on the line.
@@ -48,7 +48,7 @@ record GoodBody (b : Body) : Type 0 where
   store : GoodStore (b .store)
   period : permittedPeriod (b .period) ≡ true
   clock : validClock (b .clock) ≡ true
-  transfer : goesOn (b .store) (b .transfer) ≡ true
+  transfer : rowsAllow (b .store) (b .transfer) ≡ true
 
 good-body : (m : Model) → sound m ≡ true → GoodBody (m .body)
 good-body m s =
@@ -96,21 +96,21 @@ unfolding maxRows
 no-rows = refl
 
 -- no transfer is always possible
-idle-goes : (s : Store) → goesOn s idle ≡ true
-unfolding goesOn
+idle-goes : (s : Store) → rowsAllow s idle ≡ true
+unfolding rowsAllow
 idle-goes s = refl
 
 idle-allowed : (l : Line) → allowed l idle ≡ true
 unfolding allowed
 idle-allowed l = refl
 
-good-transfer : (t : Transfer) (b : Body) → goesOn (b .store) t ≡ true → GoodBody b → GoodBody (withTransfer t b)
+good-transfer : (t : Transfer) (b : Body) → rowsAllow (b .store) t ≡ true → GoodBody b → GoodBody (withTransfer t b)
 good-transfer t b e g = record { store = g .store; period = g .period; clock = g .clock; transfer = e }
 
 -- other rows end a transfer
 
-broken-goes : (s : Store) (t : Transfer) → goesOn s (broken t) ≡ true
-unfolding goesOn
+broken-goes : (s : Store) (t : Transfer) → rowsAllow s (broken t) ≡ true
+unfolding rowsAllow
 broken-goes s idle = refl
 broken-goes s (running x k) = refl
 broken-goes s ended = refl
@@ -150,8 +150,8 @@ good-assigned n v s g =
     }
 
 -- a value has no part in what a transfer reads
-registers-go : (rs : List Register) (s : Store) (t : Transfer) → goesOn (withRegisters rs s) t ≡ goesOn s t
-unfolding goesOn
+registers-go : (rs : List Register) (s : Store) (t : Transfer) → rowsAllow (withRegisters rs s) t ≡ rowsAllow s t
+unfolding rowsAllow
 registers-go rs s idle = refl
 registers-go rs s (running (profile p) k) = refl
 registers-go rs s ended = refl
@@ -236,30 +236,28 @@ good-action (known o) b (denied c) g = g
 
 -- A read: a transfer that begins can go on.
 
-begun-goes : (selective blocks : Bool) (s : Store) (r : Result) → Begun selective blocks s r → goesOn s (transferAfter r) ≡ true
-unfolding goesOn
-begun-goes selective blocks s (granted d) h = refl
+begun-goes : (selective blocks : Bool) (s : Store) (r : Result) → Begun selective blocks s r → rowsAllow s (transferAfter r) ≡ true
+begun-goes selective blocks s (granted d) h = idle-goes s
 begun-goes selective blocks s (begun t d) h =
-    rw (h .transfer, h .granted, h .same)
-    (both-true (both-true (lt-ltb _ _ (h .long)) refl) (lt-ltb (blockRoom longestSent * 1) (length d) (omega (arith, less-room longestSent))))
-begun-goes selective blocks s (denied c) h = refl
+    let n : length (longData (h .read) s) ≡ length d = ap length (h .same) in
+    ap (rowsAllow s) (h .transfer)
+    ∙ goes s (h .read) 1 (record { granted = h .granted; long = omega (arith, n, h .long); some = omega arith; more = omega (arith, n, h .long, less-room longestSent) })
+begun-goes selective blocks s (denied c) h = idle-goes s
 
-good-read : (c : Client) (r : Result) (b : Body) → goesOn (b .store) (transferAfter r) ≡ true → GoodBody b → GoodBody (afterRead c r b)
+good-read : (c : Client) (r : Result) (b : Body) → rowsAllow (b .store) (transferAfter r) ≡ true → GoodBody b → GoodBody (afterRead c r b)
 good-read Verification r b e g = g
 good-read (Ciphering Han) r b e g = good-transfer (transferAfter r) b e g
 
 -- A numbered request.
 
-next-goes : (s : Store) (x : Long) (k : ℕ) → goesOn s (running x k) ≡ true → goesOn s (wentOut x (k + 1) (longData x s)) ≡ true
-unfolding goesOn isLast
+next-goes : (s : Store) (x : Long) (k : ℕ) → rowsAllow s (running x k) ≡ true → rowsAllow s (wentOut x (k + 1) (longData x s)) ≡ true
+unfolding isLast
 next-goes s x k e =
-    by-test (λ (t : Transfer). goesOn s t ≡ true) (leb (length (longData x s)) (blockRoom longestSent * (k + 1))) (λ _. refl) λ f.
-    both-true (both-true long (le-leb 1 (k + 1) (omega arith))) (lt-ltb (blockRoom longestSent * (k + 1)) (length (longData x s)) (leb-false (length (longData x s)) (blockRoom longestSent * (k + 1)) f))
-  where
-    long : couldGrant x s && ltb (dataRoom longestSent) (length (longData x s)) ≡ true
-    long = both (couldGrant x s && ltb (dataRoom longestSent) (length (longData x s))) (leb 1 k) (both (couldGrant x s && ltb (dataRoom longestSent) (length (longData x s)) && leb 1 k) _ e .0) .0
+    let h = going s x k e in
+    by-test (λ (t : Transfer). rowsAllow s t ≡ true) (leb (length (longData x s)) (blockRoom longestSent * (k + 1))) (λ _. idle-goes s) λ f.
+    goes s x (k + 1) (record { granted = h .granted; long = h .long; some = omega arith; more = leb-false (length (longData x s)) (blockRoom longestSent * (k + 1)) f })
 
-good-continued : (i n : ℕ) (b : Body) (t : Transfer) → goesOn (b .store) t ≡ true → GoodBody b → GoodBody (continued i n b t .body)
+good-continued : (i n : ℕ) (b : Body) (t : Transfer) → rowsAllow (b .store) t ≡ true → GoodBody b → GoodBody (continued i n b t .body)
 good-continued i n b idle e g = good-transfer idle b (idle-goes (b .store)) g
 good-continued i n b (running x k) e g =
     by-test (λ (t : Turn). GoodBody (t .body)) (eqb n k) (λ _. good-transfer _ b (next-goes (b .store) x k e) g) (λ _. good-transfer idle b (idle-goes (b .store)) g)
@@ -278,14 +276,14 @@ good-turned (goOn i n) b g = good-continued i n b (b .transfer) (g .transfer) g
 settled-sound : (m : Model) → GoodBody (m .body) → lineSound (m .line) ≡ true → sound (settled m) ≡ true
 settled-sound m g e =
     sound-of (settled m)
-    (good-transfer _ (m .body) (by-test (λ (t : Transfer). goesOn (m .body .store) t ≡ true) (allowed (m .line) (m .body .transfer)) (λ _. g .transfer) (λ _. idle-goes (m .body .store))) g)
+    (good-transfer _ (m .body) (by-test (λ (t : Transfer). rowsAllow (m .body .store) t ≡ true) (allowed (m .line) (m .body .transfer)) (λ _. g .transfer) (λ _. idle-goes (m .body .store))) g)
     e (by-test (λ (t : Transfer). allowed (m .line) t ≡ true) (allowed (m .line) (m .body .transfer)) (λ a. a) (λ _. idle-allowed (m .line)))
 
 -- A frame that leaves the line of a sound meter as it was leaves its transfer.
 pub settled-stays : (m : Model) → sound m ≡ true → settled m ≡ m
 settled-stays m s = ap (λ (c : Bool). withBody (withTransfer (cond c (m .body .transfer) idle) (m .body)) m) (good-allowed m s)
 
-module _ (p : Protocol) (keeps : KeepsLines p) (m : Model) (s : sound m ≡ true) where
+module _ (m : Model) (s : sound m ≡ true) where
   good : GoodBody (m .body)
   good = good-body m s
 
@@ -299,7 +297,7 @@ module _ (p : Protocol) (keeps : KeepsLines p) (m : Model) (s : sound m ≡ true
   other-sound : (x : Store) → GoodStore x → sound (withBody (withOtherRows x (m .body)) m) ≡ true
   other-sound x h = body-sound _ (good-other x (m .body) h good) (broken-allowed (m .line) (m .body .transfer) kept)
 
-  owner-sound : (o : OwnerCall) → ownRefusal o m ≡ 0 → sound (obeyed o m) ≡ true
+  pub owner-sound : (o : OwnerCall) → ownRefusal o m ≡ 0 → sound (obeyed o m) ≡ true
   owner-sound (giveRegisters rs) z = other-sound _ (good-none rs [] (passed (acceptedRegisters rs) 16 refl z) (no-columns rs))
   owner-sound (setValue n v) z = body-sound _ (good-set n v (m .body) good) kept
   owner-sound (setColumns cs) z = other-sound _ (good-none (m .body .store .registers) cs (good .store .registers) (passed (acceptedColumns (m .body .store .registers) cs) 18 refl z))
@@ -308,18 +306,19 @@ module _ (p : Protocol) (keeps : KeepsLines p) (m : Model) (s : sound m ≡ true
   owner-sound (setP5 f) z = sound-of (withLine (withP5 f (m .line)) m) good (good-line m s) (p5-allowed f (m .line) (m .body .transfer) ∙ kept)
   owner-sound powerUp z = sound-of _ (good-transfer idle _ (idle-goes _) (good-number 0 _ (good-emptied (m .body) good))) refl (idle-allowed (poweredLine (m .line)))
 
-  act-sound : (c : Call) → sound (act p c m .next) ≡ true
-  unfolding act
-  act-sound (frame a) = go ((p .decide) (m .line) a) (keeps (m .line) a (good-line m s))
-    where
-      go : (d : Decision) → lineSound (lineAfter d) ≡ true → sound (settled (decided p d m .next)) ≡ true
-      go (answer x) e = settled-sound _ good e
-      go (serve q w l) e = settled-sound _ (good-turned q (m .body) good) e
-  act-sound (owner o) = by-test (λ (q : Outcome). sound (q .next) ≡ true) (eqb (ownRefusal o m) 0) (λ z. owner-sound o (eqb-true (ownRefusal o m) 0 z)) (λ _. s)
+  module _ (p : Protocol) (keeps : KeepsLines p) where
+    act-sound : (c : Call) → sound (act p c m .next) ≡ true
+    unfolding act
+    act-sound (frame a) = go ((p .decide) (m .line) a) (keeps (m .line) a (good-line m s))
+      where
+        go : (d : Decision) → lineSound (lineAfter d) ≡ true → sound (settled (decided p d m .next)) ≡ true
+        go (answer x) e = settled-sound _ good e
+        go (serve q w l) e = settled-sound _ (good-turned q (m .body) good) e
+    act-sound (owner o) = by-test (λ (q : Outcome). sound (q .next) ≡ true) (eqb (ownRefusal o m) 0) (λ z. owner-sound o (eqb-true (ownRefusal o m) 0 z)) (λ _. s)
 
 pub stays-sound : (p : Protocol) → KeepsLines p → StaysSound p
 unfolding step
 stays-sound p keeps c m s =
     by-test (λ (o : Outcome). sound (o .next) ≡ true) (eqb (early c) 0)
-    (λ _. by-test (λ (o : Outcome). sound (o .next) ≡ true) (sound m) (λ _. act-sound p keeps m s c) (λ _. s))
+    (λ _. by-test (λ (o : Outcome). sound (o .next) ≡ true) (sound m) (λ _. act-sound m s p keeps c) (λ _. s))
     (λ _. s)

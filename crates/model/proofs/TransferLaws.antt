@@ -1,20 +1,22 @@
 -- Transfers: what is to come of one after each block, what a read begins, and what a numbered request brings.
 use mathlib.Core.Path.{_≡_, refl, sym, _∙_}
 use mathlib.Core.Bool.{Bool, true, false, cond, not, _&&_, false≢true}
-use mathlib.Core.List.{List, [], _++_}
-use Prim.Native.Nat.{ℕ, _+_, _*_, _<_}
+use mathlib.Core.List.{List, [], _++_, flatMap}
+use Prim.Native.Nat.{ℕ, _+_, _*_, _≤_, _<_}
 use native.Mathlib.Nat.{mul-zero}
 use lib.ListN.{length, drop, drop-of-length-le}
-use lib.Dec.{eqb, leb}
-use borrow.Author.Tests.{eqb-true, eq-eqb, leb-true, leb-false}
+use lib.Dec.{eqb, ltb, leb}
+use borrow.Author.Tests.{eqb-true, eq-eqb, leb-true, leb-false, le-leb, lt-leb, ltb-true, lt-ltb}
+use Rattle.wire.specs.Numbers.{lengthField}
 use Rattle.model.specs.declared.Name.{Name}
 use Rattle.model.specs.Limits.{longestSent, dataRoom, blockRoom}
 use Rattle.model.specs.Services.{getService, selectiveAccess, blockTransfer}
 use Rattle.model.specs.Selecting.{Selection, all, selected, Picking, whole, numbered, dated, Described, picking, faulty, rangeSelector, entrySelector, isRangeDescriptor, isEntryDescriptor, fromClock, toClock, fromColumn, toColumn, goodRange, describedRange, describedEntries, described}
 use Rattle.model.specs.State.{Line, Entry, Store, Long, profile, Transfer, idle, running, ended, runs, Body}
-use Rattle.model.specs.Objects.{Content, simple, rows, recordNumber, register, Meaning, known, unknown, serves, Request, goOn, Result, granted, begun, denied, rowsData, attributeData, Picked, these, wrong, picked, pickedBy, takesSelector, begins, fitting, shown, attributeRead, block, isLast, longData, wentOut, nextTurn, turned}
-use Rattle.model.specs.Soundness.{hasAgreed, couldAsk, allowed, goodPicking, couldGrant}
+use Rattle.model.specs.Objects.{Content, simple, rows, recordNumber, register, Meaning, known, unknown, serves, Request, goOn, Result, granted, begun, denied, rowsData, attributeData, Picked, these, wrong, picked, pickedBy, takesSelector, begins, fitting, shown, attributeRead, block, isLast, pickedRows, longData, wentOut, nextTurn, turned}
+use Rattle.model.specs.Soundness.{hasAgreed, couldAsk, allowed, goodPicking, couldGrant, moreComes, rowsAllow}
 use Rattle.model.specs.Calls.{keptBy}
+use Rattle.model.proofs.LimitFacts.{data-room}
 use Rattle.model.proofs.ListLaws.{both, both-true, by-test}
 use Rattle.model.proofs.BlockLaws.{part-rest, block-part}
 
@@ -35,6 +37,40 @@ went-rest s x k =
 -- once the next block has gone out: what was to come, but for it
 pub next-rest : (s : Store) (x : Long) (k : ℕ) → block (k + 1) (longData x s) ++ toCome s (wentOut x (k + 1) (longData x s)) ≡ toCome s (running x k)
 next-rest s x k = rw (went-rest s x (k + 1), block-part (k + 1) (longData x s)) (part-rest (blockRoom longestSent) k (longData x s))
+
+-- What the test of soundness says of a transfer that runs.
+pub record Going (s : Store) (x : Long) (k : ℕ) : Type 0 where
+  pub granted : couldGrant x ≡ true
+  pub long : dataRoom longestSent < length (longData x s)
+  pub some : 1 ≤ k
+  pub more : blockRoom longestSent * k < length (longData x s)
+
+pub going : (s : Store) (x : Long) (k : ℕ) → rowsAllow s (running x k) ≡ true → Going s x k
+unfolding rowsAllow
+going s x k e =
+    let n = length (longData x s) in
+    let c = both (couldGrant x) (moreComes n k) e in
+    let h = both (ltb (dataRoom longestSent) n && leb 1 k) _ (c .1) in
+    let g = both (ltb (dataRoom longestSent) n) _ (h .0) in
+    record { granted = c .0; long = ltb-true _ _ (g .0); some = leb-true _ _ (g .1); more = ltb-true _ _ (h .1) }
+
+pub goes : (s : Store) (x : Long) (k : ℕ) → Going s x k → rowsAllow s (running x k) ≡ true
+unfolding rowsAllow
+goes s x k h =
+    both-true (h .granted) (both-true (both-true (lt-ltb _ _ (h .long)) (le-leb _ _ (h .some))) (lt-ltb _ _ (h .more)))
+
+-- the data of no rows are too short for a transfer
+pub none-short : ltb (dataRoom longestSent) (length (rowsData [])) ≡ false
+unfolding rowsData flatMap lengthField
+none-short = rw data-room
+
+-- so a picking of which a transfer goes on gives rows
+pub going-rows : (p : Picking) (s : Store) → dataRoom longestSent < length (longData (profile p) s) → picked p (s .rows) ≡ these (pickedRows (picked p (s .rows)))
+going-rows p s h = go (picked p (s .rows)) h
+  where
+    go : (w : Picked) → dataRoom longestSent < length (rowsData (pickedRows w)) → w ≡ these (pickedRows w)
+    go (these rs) l = refl
+    go (wrong c) l = absurd (false≢true (sym none-short ∙ lt-ltb _ _ l))
 
 -- A read.
 
@@ -66,7 +102,7 @@ described-good belongs (selected k v) =
 pub record Begins (selective blocks : Bool) (s : Store) (t : Transfer) (d : List ℕ) : Type 0 where
   pub read : Long
   pub transfer : t ≡ running read 1
-  pub granted : couldGrant read s ≡ true
+  pub granted : couldGrant read ≡ true
   pub same : longData read s ≡ d
   pub long : dataRoom longestSent < length d
   pub agreed : blocks ≡ true
@@ -103,7 +139,7 @@ module _ (selective blocks : Bool) (n : Name) (a : ℕ) (b : Body) where
           record {
             read = profile p;
             transfer = refl;
-            granted = rw (g .0, e);
+            granted = g .0;
             same = rw e;
             long = l;
             agreed = h;
@@ -130,6 +166,11 @@ read-begins q a s b (known o) =
     by-test (Begun (q .selective) (q .blocks) (b .store)) (not (eqb (q .class) (o .class))) (λ _. tt) λ _.
     by-test (Begun (q .selective) (q .blocks) (b .store)) (not (serves (o .attributes) a)) (λ _. tt) λ _.
     shown-begins (q .selective) (q .blocks) (q .name) a b (o .content) (described (takesSelector (o .content) a && q .selective) s) (described-good (takesSelector (o .content) a && q .selective) s)
+
+-- data too long for one frame begin the transfer, where blocks are agreed
+pub long-begins : (t : Transfer) (d : List ℕ) → runs t ≡ true → dataRoom longestSent < length d → fitting true t d ≡ begun t d
+unfolding fitting
+long-begins t d r h = rw (lt-leb (length d) (dataRoom longestSent) h, r)
 
 -- a line that has what was agreed in force keeps the transfer
 pub begun-kept : {selective blocks : Bool} {s : Store} {t : Transfer} {d : List ℕ} (l : Line) → Begins selective blocks s t d

@@ -4,30 +4,30 @@ use mathlib.Core.Path.{_≡_, refl, sym, _∙_, ap}
 use mathlib.Core.Bool.{Bool, true, false, cond, not, _&&_, false≢true}
 use mathlib.Core.Logic.{_⊎_, inl, inr}
 use mathlib.Core.List.{List}
-use Prim.Native.Nat.{ℕ, _+_, _*_}
+use Prim.Native.Nat.{ℕ, _+_}
 use native.Mathlib.Omega.{arith}
 use lib.ListN.{length}
 use lib.Dec.{eqb, leb}
-use borrow.Author.Tests.{eqb-true, eq-eqb, lt-leb}
+use borrow.Author.Tests.{eqb-true, eq-eqb}
 use Rattle.wire.specs.Reading.{sameBytes}
 use Rattle.model.specs.declared.Name.{Name}
 use Rattle.model.specs.declared.Client.{Client}
 use Rattle.model.specs.declared.Client.the-variants.{Verification, Ciphering}
 use Rattle.model.specs.declared.CipherClient.the-variants.{Han}
-use Rattle.model.specs.Limits.{longestSent, dataRoom, blockRoom}
+use Rattle.model.specs.Limits.{longestSent, dataRoom}
 use Rattle.model.specs.Names.{sameName}
 use Rattle.model.specs.Clocks.{validClock}
 use Rattle.model.specs.Periods.{captureDue}
 use Rattle.model.specs.Selecting.{Selection, described}
 use Rattle.model.specs.State.{Line, Entry, Store, Long, Transfer, idle, running, ended, runs, broken, Body, Model, withBody, withClock, withTransfer}
-use Rattle.model.specs.Objects.{own, deviceObject, profileNamed, Content, simple, rows, recordNumber, register, Meaning, known, unknown, Object, meaning, serves, Parameter, Service, get, action, Request, Inquiry, ask, goOn, Result, granted, begun, denied, rowsData, attributeData, Picked, these, wrong, takesSelector, selectedRows, beginsWith, begins, fitting, shown, attributeRead, goodParameter, methodInvoked, afterMethod, block, isLast, blockAnswer, longData, wentOut, Turn, refusalOf, getAnswer, transferAfter, afterRead, afterAction, answered, refusedTurn, nextTurn, continued, turned}
+use Rattle.model.specs.Objects.{own, deviceObject, profileNamed, Content, simple, rows, recordNumber, register, Meaning, known, unknown, Object, meaning, serves, Parameter, Service, get, action, Request, Inquiry, ask, goOn, Result, granted, begun, denied, rowsData, attributeData, Picked, these, wrong, takesSelector, selectedRows, beginsWith, begins, fitting, shown, attributeRead, goodParameter, methodInvoked, afterMethod, block, isLast, longData, wentOut, Turn, refusalOf, getAnswer, transferAfter, afterRead, afterAction, answered, refusedTurn, nextTurn, continued, turned}
 use Rattle.model.specs.Soundness.{acceptedRegisters, acceptedColumns, takesBlocks, couldAsk, allowed, sound}
 use Rattle.model.specs.Calls.{Lent, Call, frame, owner, OwnerCall, ownRefusal, obeyed, giveRegisters, setValue, setColumns, setPeriod, tick, setP5, powerUp, Outcome, refused, done, Wrap, Decision, answer, serve, Protocol, decided, keptBy, settled, settles, captured, ticked, act, early, step}
-use Rattle.model.specs.Blocks.{blockBytes, FirstBlock, NextBlock, NumberedRefused, Changes, captures, columns, registers, EndsTransfers, BeginsAnother, ForgetsTransfers, LeavesTransfers, tableOf, TransferAfter, stopped, unmoved, moved, began, TransfersAreReads}
+use Rattle.model.specs.Blocks.{FirstBlock, NextBlock, NumberedRefused, BringsOtherRows, captures, columns, registers, EndsTransfers, BeginsAnother, ForgetsTransfers, LeavesTransfers, tableOf, LeftOfTransfer, stopped, unmoved, moved, began, TransfersAreReads}
 use Rattle.model.proofs.ListLaws.{both, by-test, passed}
 use Rattle.model.proofs.NameLaws.{same-name}
 use Rattle.model.proofs.ObjectLaws.{Tells, Means, meaning-tells}
-use Rattle.model.proofs.BlockLaws.{less-room, answer-bytes, bytes-only}
+use Rattle.model.proofs.BlockLaws.{answer-bytes, bytes-only, first-more, first-bytes}
 use Rattle.model.proofs.TransferLaws.{Begins, read-begins, goes-on}
 use Rattle.model.proofs.StaySound.{settled-stays}
 
@@ -147,11 +147,7 @@ began-by q a s b t d e =
 
 -- the first of its blocks is not the last
 pub first-of-more : {selective blocks : Bool} {s : Store} {t : Transfer} {d : List ℕ} → Begins selective blocks s t d → isLast 1 d ≡ false
-unfolding isLast
-first-of-more {d = d} h = lt-leb (length d) (blockRoom longestSent * 1) (omega (arith, h .long, less-room longestSent))
-
-first-bytes : (i : ℕ) {selective blocks : Bool} {s : Store} {t : Transfer} {d : List ℕ} → Begins selective blocks s t d → blockAnswer i 1 d ≡ blockBytes i 0x00 1 (block 1 d)
-first-bytes i {d = d} h = answer-bytes i 1 d ∙ ap (λ (z : Bool). blockBytes i (cond z 0x01 0x00) 1 (block 1 d)) (first-of-more h)
+first-of-more {d = d} h = first-more d (h .long)
 
 -- What each call leaves of a transfer.
 
@@ -161,35 +157,35 @@ broken-stopped (running x k) = refl
 broken-stopped ended = refl
 
 module _ (p : Protocol) (m : Model) where
-  owner-after : (o : OwnerCall) → TransferAfter p (owner o) m (done (obeyed o m))
+  owner-after : (o : OwnerCall) → LeftOfTransfer p (owner o) m (done (obeyed o m))
   unfolding ticked captured
   owner-after (giveRegisters rs) = stopped (broken-stopped (m .body .transfer))
   owner-after (setValue n v) = unmoved refl refl
   owner-after (setColumns cs) = stopped (broken-stopped (m .body .transfer))
   owner-after (setPeriod d) = unmoved refl refl
   owner-after (tick t) =
-      by-test (λ (b : Body). TransferAfter p (owner (tick t)) m (done (withBody (withClock t b) m))) (captureDue (m .body .period) t)
+      by-test (λ (b : Body). LeftOfTransfer p (owner (tick t)) m (done (withBody (withClock t b) m))) (captureDue (m .body .period) t)
       (λ _. stopped (broken-stopped (m .body .transfer))) (λ _. unmoved refl refl)
   owner-after (setP5 f) = unmoved refl refl
   owner-after powerUp = stopped refl
 
   -- the line after a frame leaves what the body left, or no transfer
   kept-after : (c : Call) (o : Outcome)
-      → ((r : Outcome) → r .next .body .transfer ≡ o .next .body .transfer → tableOf (r .next .body) ≡ tableOf (o .next .body) → TransferAfter p c m r)
-      → TransferAfter p c m (settles o)
+      → ((r : Outcome) → r .next .body .transfer ≡ o .next .body .transfer → tableOf (r .next .body) ≡ tableOf (o .next .body) → LeftOfTransfer p c m r)
+      → LeftOfTransfer p c m (settles o)
   kept-after c o h = go (allowed (o .next .line) (o .next .body .transfer)) refl
     where
-      go : (a : Bool) → allowed (o .next .line) (o .next .body .transfer) ≡ a → TransferAfter p c m (settles o)
+      go : (a : Bool) → allowed (o .next .line) (o .next .body .transfer) ≡ a → LeftOfTransfer p c m (settles o)
       go true e = h (settles o) (ap (λ (a : Bool). cond a (o .next .body .transfer) idle) e) refl
       go false e = stopped (ap (λ (a : Bool). runs (cond a (o .next .body .transfer) idle)) e)
 
   action-after : (c : Call) (w : Meaning) (r : Result) (o : Outcome) → o .next .body .transfer ≡ afterAction w (m .body) r .transfer
-      → tableOf (o .next .body) ≡ tableOf (afterAction w (m .body) r) → TransferAfter p c m o
+      → tableOf (o .next .body) ≡ tableOf (afterAction w (m .body) r) → LeftOfTransfer p c m o
   action-after c unknown r o f h = unmoved f h
   action-after c (known x) (granted d) o f h = go (x .content) f h
     where
       go : (y : Content) → o .next .body .transfer ≡ afterMethod y (m .body) .transfer → tableOf (o .next .body) ≡ tableOf (afterMethod y (m .body))
-          → TransferAfter p c m o
+          → LeftOfTransfer p c m o
       go (simple z) f h = unmoved f h
       go rows f h = stopped (ap runs f ∙ broken-stopped (m .body .transfer))
       go recordNumber f h = unmoved f h
@@ -222,12 +218,12 @@ module _ (p : Protocol) (m : Model) where
             picks = g .long .picks;
             granted = ap (λ (o : Outcome). o .refusal) asked ∙ ap (λ (v : Turn). v .refusal) u ∙ ap refusalOf r;
             bytes =
-                ap (λ (v : Turn). v .bytes) u ∙ ap (getAnswer (q .invoke)) r ∙ first-bytes (q .invoke) (g .begins);
+                ap (λ (v : Turn). v .bytes) u ∙ ap (getAnswer (q .invoke)) r ∙ first-bytes (q .invoke) xs (g .begins .long);
             sent = ap (λ (o : Outcome). o .sent) asked;
           }
 
       read-after : (k : ℕ) (s : Selection) (c : Client) (r : Result) (o : Outcome) → q .client ≡ c → q .service ≡ get k s → readResult q k s (m .body) ≡ r
-          → o .next .body .transfer ≡ afterRead c r (m .body) .transfer → tableOf (o .next .body) ≡ tableOf (afterRead c r (m .body)) → TransferAfter p (frame a) m o
+          → o .next .body .transfer ≡ afterRead c r (m .body) .transfer → tableOf (o .next .body) ≡ tableOf (afterRead c r (m .body)) → LeftOfTransfer p (frame a) m o
       read-after k s Verification r o c e i f h = unmoved f h
       read-after k s (Ciphering Han) (granted x) o c e i f h = stopped (ap runs f)
       read-after k s (Ciphering Han) (begun t xs) o c e i f h =
@@ -237,14 +233,14 @@ module _ (p : Protocol) (m : Model) where
 
       asked-after : (v : Service) (o : Outcome) → q .service ≡ v
           → o .next .body .transfer ≡ answered q (m .body) (meaning (q .client) (q .name) (m .body .store .registers)) v .body .transfer
-          → tableOf (o .next .body) ≡ tableOf (answered q (m .body) (meaning (q .client) (q .name) (m .body .store .registers)) v .body) → TransferAfter p (frame a) m o
+          → tableOf (o .next .body) ≡ tableOf (answered q (m .body) (meaning (q .client) (q .name) (m .body .store .registers)) v .body) → LeftOfTransfer p (frame a) m o
       asked-after (get k s) o e f h = read-after k s (q .client) (readResult q k s (m .body)) o refl e refl f h
       asked-after (action k v) o e f h =
           action-after (frame a) (meaning (q .client) (q .name) (m .body .store .registers)) (methodInvoked q k v (meaning (q .client) (q .name) (m .body .store .registers))) o f h
 
     next-after : (i n : ℕ) → (p .decide) (m .line) a ≡ serve (goOn i n) w l → (t : Transfer) (o : Outcome) → m .body .transfer ≡ t
         → o .next .body .transfer ≡ continued i n (m .body) t .body .transfer → tableOf (o .next .body) ≡ tableOf (continued i n (m .body) t .body)
-        → TransferAfter p (frame a) m o
+        → LeftOfTransfer p (frame a) m o
     next-after i n d idle o e f h = stopped (ap runs f)
     next-after i n d (running x k) o e f h = go (eqb n k) refl f h
       where
@@ -268,31 +264,31 @@ module _ (p : Protocol) (m : Model) where
               sent = ap (λ (r : Outcome). r .sent) u;
             }
 
-        more : (b : Bool) → isLast (k + 1) xs ≡ b → n ≡ k → o .next .body .transfer ≡ cond b idle (running x (k + 1)) → tableOf (o .next .body) ≡ tableOf (m .body) → TransferAfter p (frame a) m o
+        more : (b : Bool) → isLast (k + 1) xs ≡ b → n ≡ k → o .next .body .transfer ≡ cond b idle (running x (k + 1)) → tableOf (o .next .body) ≡ tableOf (m .body) → LeftOfTransfer p (frame a) m o
         more true z j f h = stopped (ap runs f)
         more false z j f h = moved x k (block (k + 1) xs) e f h (rw z at (next-block j))
 
         go : (c : Bool) → eqb n k ≡ c → o .next .body .transfer ≡ cond c (nextTurn i x k (m .body)) (refusedTurn i n 19 (m .body)) .body .transfer
-            → tableOf (o .next .body) ≡ tableOf (cond c (nextTurn i x k (m .body)) (refusedTurn i n 19 (m .body)) .body) → TransferAfter p (frame a) m o
+            → tableOf (o .next .body) ≡ tableOf (cond c (nextTurn i x k (m .body)) (refusedTurn i n 19 (m .body)) .body) → LeftOfTransfer p (frame a) m o
         go true j f h = more (isLast (k + 1) xs) refl (eqb-true n k j) f h
         go false j f h = stopped (ap runs f)
     next-after i n d ended o e f h = stopped (ap runs f)
 
-  act-after : (c : Call) → step p c m ≡ act p c m → TransferAfter p c m (act p c m)
+  act-after : (c : Call) → step p c m ≡ act p c m → LeftOfTransfer p c m (act p c m)
   unfolding act turned
   act-after (frame a) acts = go ((p .decide) (m .line) a) refl
     where
-      go : (d : Decision) → (p .decide) (m .line) a ≡ d → TransferAfter p (frame a) m (settles (decided p d m))
+      go : (d : Decision) → (p .decide) (m .line) a ≡ d → LeftOfTransfer p (frame a) m (settles (decided p d m))
       go (answer s) e = kept-after (frame a) (decided p (answer s) m) (λ r f h. unmoved f h)
       go (serve (ask q) w l) e = kept-after (frame a) (decided p (serve (ask q) w l) m) (λ r f h. asked-after a w l acts q e (q .service) r refl f h)
       go (serve (goOn i n) w l) e = kept-after (frame a) (decided p (serve (goOn i n) w l) m) (λ r f h. next-after a w l acts i n e (m .body .transfer) r refl f h)
-  act-after (owner o) acts = by-test (TransferAfter p (owner o) m) (eqb (ownRefusal o m) 0) (λ _. owner-after o) (λ _. unmoved refl refl)
+  act-after (owner o) acts = by-test (LeftOfTransfer p (owner o) m) (eqb (ownRefusal o m) 0) (λ _. owner-after o) (λ _. unmoved refl refl)
 
 pub transfers-are-reads : (p : Protocol) → TransfersAreReads p
 unfolding step
 transfers-are-reads p c m =
-    by-test (TransferAfter p c m) (eqb (early c) 0)
-    (λ e. by-test (TransferAfter p c m) (sound m) (λ s. act-after p m c (acted p c m e s)) (λ _. unmoved refl refl))
+    by-test (LeftOfTransfer p c m) (eqb (early c) 0)
+    (λ e. by-test (LeftOfTransfer p c m) (sound m) (λ s. act-after p m c (acted p c m e s)) (λ _. unmoved refl refl))
     (λ _. unmoved refl refl)
 
 -- What ends a transfer.
@@ -303,7 +299,7 @@ broken-ended (running x k) r = refl
 broken-ended ended r = refl
 
 module _ (p : Protocol) (m : Model) (s : sound m ≡ true) (r : runs (m .body .transfer) ≡ true) where
-  owner-ends : (o : OwnerCall) → Changes m o → step p (owner o) m .next .body .transfer ≡ ended
+  owner-ends : (o : OwnerCall) → BringsOtherRows m o → step p (owner o) m .next .body .transfer ≡ ended
   unfolding step act ticked captured
   owner-ends o (captures t v d) = rw (s, v, d) (broken-ended (m .body .transfer) r)
   owner-ends o (columns cs v) = rw (s, v) (broken-ended (m .body .transfer) r)
@@ -434,7 +430,7 @@ module _ (q : Request) (a : ℕ) (s : Selection) (b : Body) where
   read-leaves (granted d) e = inl refl
   read-leaves (begun t d) e =
       let g = began-by q a s b t d e .begins in
-      inr (record { read = g .read; piece = block 1 d; granted = refl; bytes = first-bytes (q .invoke) g; transfer = g .transfer })
+      inr (record { read = g .read; piece = block 1 d; granted = refl; bytes = first-bytes (q .invoke) d (g .long); transfer = g .transfer })
   read-leaves (denied c) e = inl refl
 
   read-forgets : q .client ≡ Ciphering Han → q .service ≡ get a s → (turned (ask q) b .body .transfer ≡ idle) ⊎ BeginsAnother q (turned (ask q) b)
@@ -463,7 +459,7 @@ module _ (p : Protocol) (m : Model) where
   abbrev Same : Outcome → Type 0
   Same o = o .next .body .transfer ≡ m .body .transfer
 
-  obeyed-leaves : (o : OwnerCall) → ownRefusal o m ≡ 0 → (o ≡ powerUp → ⊥) → ((runs (m .body .transfer) ≡ true) × Changes m o → ⊥) → Same (done (obeyed o m))
+  obeyed-leaves : (o : OwnerCall) → ownRefusal o m ≡ 0 → (o ≡ powerUp → ⊥) → ((runs (m .body .transfer) ≡ true) × BringsOtherRows m o → ⊥) → Same (done (obeyed o m))
   unfolding ticked captured
   obeyed-leaves (giveRegisters rs) z n h = broken-left (m .body .transfer) (λ r. h (r, registers rs (passed (acceptedRegisters rs) 16 refl z)))
   obeyed-leaves (setValue n v) z _ h = refl
@@ -476,7 +472,7 @@ module _ (p : Protocol) (m : Model) where
   obeyed-leaves (setP5 f) z n h = refl
   obeyed-leaves powerUp z n h = absurd (n refl)
 
-  owner-leaves : (o : OwnerCall) → (o ≡ powerUp → ⊥) → ((runs (m .body .transfer) ≡ true) × Changes m o → ⊥) → Same (step p (owner o) m)
+  owner-leaves : (o : OwnerCall) → (o ≡ powerUp → ⊥) → ((runs (m .body .transfer) ≡ true) × BringsOtherRows m o → ⊥) → Same (step p (owner o) m)
   unfolding step act
   owner-leaves o n h =
       by-test Same (sound m)

@@ -1,11 +1,11 @@
 -- Answers in blocks (document 02, Q-4): what is promised of transfers, over any list of calls and any protocol. Blocks are read off the
 -- bytes that go out (`blockBytes`), and not by the definitions of specs/Objects that cut the data. Proved in proofs/BlockLaws,
--- proofs/Transfers and proofs/Joined.
+-- proofs/Transfers, proofs/Joined and proofs/Possible.
 use mathlib.Core.Path.{_≡_}
 use mathlib.Core.Bool.{true, false}
 use mathlib.Core.Logic.{_⊎_}
 use mathlib.Core.List.{List, [], _∷_, _++_}
-use Prim.Native.Nat.{ℕ, _+_, _<_, _≤_}
+use Prim.Native.Nat.{ℕ, _+_, _^_, _<_, _≤_}
 use lib.ListN.{length}
 use lib.Dec.{eqb}
 use Rattle.wire.specs.Numbers.{highFirst, lengthField}
@@ -18,12 +18,13 @@ use Rattle.model.specs.Limits.{longestSent, textRoom, blockRoom}
 use Rattle.model.specs.Names.{sameName, every}
 use Rattle.model.specs.Clocks.{validClock}
 use Rattle.model.specs.Periods.{captureDue}
-use Rattle.model.specs.Selecting.{Selection, all, whole}
-use Rattle.model.specs.State.{Entry, Long, profile, Transfer, idle, running, ended, runs, Line, Body, withTransfer, Model}
+use Rattle.model.specs.Services.{getService, selectiveAccess, blockTransfer}
+use Rattle.model.specs.Selecting.{Selection, all, Picking, whole, numbered, dated}
+use Rattle.model.specs.State.{Entry, Long, profile, Transfer, idle, running, ended, runs, Line, Body, withTransfer, withOtherRows, Model}
 use Rattle.model.specs.Objects.{profileNamed, get, action, Parameter, Request, ask, goOn, these, selectedRows, rowsData, Turn, turned}
-use Rattle.model.specs.Soundness.{acceptedRegisters, acceptedColumns, takesBlocks, sound}
+use Rattle.model.specs.Soundness.{acceptedRegisters, acceptedColumns, hasAgreed, takesBlocks, allowed, rowsAllow, sound}
 use Rattle.model.specs.Calls.{Lent, Call, frame, owner, OwnerCall, giveRegisters, setColumns, tick, powerUp, Wrap, serve, Outcome, Protocol, step}
-use Rattle.model.specs.ByDate.{profileRequest}
+use Rattle.model.specs.ByDate.{profileAsked, profileRequest}
 
 -- Blocks as they go out.
 
@@ -130,14 +131,14 @@ pub record NumberedRefused : Type 0 where
 
 -- What ends a transfer, and what forgets it.
 
--- "A capture, profile reset, column change or new registers ends the transfer": where these are accepted
-pub data Changes (m : Model) : OwnerCall → Type 0 where
-  captures : (t : Clock) → validClock t ≡ true → captureDue (m .body .period) t ≡ true → Changes m (tick t)
-  columns : (cs : List Name) → acceptedColumns (m .body .store .registers) cs ≡ true → Changes m (setColumns cs)
-  registers : (rs : List Register) → acceptedRegisters rs ≡ true → Changes m (giveRegisters rs)
+-- "A capture, profile reset, column change or new registers ends the transfer": the owner's calls among these, accepted
+pub data BringsOtherRows (m : Model) : OwnerCall → Type 0 where
+  captures : (t : Clock) → validClock t ≡ true → captureDue (m .body .period) t ≡ true → BringsOtherRows m (tick t)
+  columns : (cs : List Name) → acceptedColumns (m .body .store .registers) cs ≡ true → BringsOtherRows m (setColumns cs)
+  registers : (rs : List Register) → acceptedRegisters rs ≡ true → BringsOtherRows m (giveRegisters rs)
 
 pub record EndsTransfers (p : Protocol) : Type 0 where
-  pub owner : (o : OwnerCall) (m : Model) → sound m ≡ true → runs (m .body .transfer) ≡ true → Changes m o → step p (owner o) m .next .body .transfer ≡ ended
+  pub owner : (o : OwnerCall) (m : Model) → sound m ≡ true → runs (m .body .transfer) ≡ true → BringsOtherRows m o → step p (owner o) m .next .body .transfer ≡ ended
   pub reset :
       (q : Request) (k : ℕ) (v : Parameter) (b : Body)
       → q .service ≡ action k v
@@ -175,7 +176,7 @@ pub record LeavesTransfers (p : Protocol) : Type 0 where
   pub owner :
       (o : OwnerCall) (m : Model)
       → (o ≡ powerUp → ⊥)
-      → ((runs (m .body .transfer) ≡ true) × Changes m o → ⊥)
+      → ((runs (m .body .transfer) ≡ true) × BringsOtherRows m o → ⊥)
       → step p (owner o) m .next .body .transfer ≡ m .body .transfer
   pub verification : (q : Request) (b : Body) → q .client ≡ Verification → turned (ask q) b .body .transfer ≡ b .transfer
   pub action :
@@ -197,20 +198,68 @@ tableOf b = (b .store .rows, b .store .columns)
 
 -- what a call leaves of a transfer: none runs; it is as it was, and so are rows and columns; one more block went out of it, not the
 -- last, to a request with the number of the one before; or one began, in a read of the profile that was granted
-pub data TransferAfter (p : Protocol) (c : Call) (m : Model) (o : Outcome) : Type 0 where
-  stopped : runs (o .next .body .transfer) ≡ false → TransferAfter p c m o
-  unmoved : o .next .body .transfer ≡ m .body .transfer → tableOf (o .next .body) ≡ tableOf (m .body) → TransferAfter p c m o
+pub data LeftOfTransfer (p : Protocol) (c : Call) (m : Model) (o : Outcome) : Type 0 where
+  stopped : runs (o .next .body .transfer) ≡ false → LeftOfTransfer p c m o
+  unmoved : o .next .body .transfer ≡ m .body .transfer → tableOf (o .next .body) ≡ tableOf (m .body) → LeftOfTransfer p c m o
   moved :
       (x : Long) (k : ℕ) (piece : List ℕ)
       → m .body .transfer ≡ running x k
       → o .next .body .transfer ≡ running x (k + 1)
       → tableOf (o .next .body) ≡ tableOf (m .body)
       → NextBlock p c m 0x00 k piece
-      → TransferAfter p c m o
-  began : (x : Long) (rs : List Entry) (piece : List ℕ) → o .next .body .transfer ≡ running x 1 → FirstBlock p c m rs piece → TransferAfter p c m o
+      → LeftOfTransfer p c m o
+  began : (x : Long) (rs : List Entry) (piece : List ℕ) → o .next .body .transfer ≡ running x 1 → FirstBlock p c m rs piece → LeftOfTransfer p c m o
 
 abbrev pub TransfersAreReads : Protocol → Type 0
-TransfersAreReads p = (c : Call) (m : Model) → TransferAfter p c m (step p c m)
+TransfersAreReads p = (c : Call) (m : Model) → LeftOfTransfer p c m (step p c m)
+
+-- What passes the test of soundness.
+
+-- the numbers that a picking of the code has: rows counted in four bytes, clocks of twelve
+pub data MeasuredPicking : Picking → Type 0 where
+  ofAll : MeasuredPicking whole
+  ofNumbers : {from to : ℕ} → from < 256 ^ 4 → to < 256 ^ 4 → MeasuredPicking (numbered from to)
+  ofClocks : {from to : Clock} → length (from .bytes) ≡ 12 → length (to .bytes) ≡ 12 → MeasuredPicking (dated from to)
+
+-- H's GET of attribute 2 of the profile, with what was agreed on the line
+abbrev pub profileAskedOn : Line → (invoke : ℕ) → Selection → Request
+profileAskedOn l i s = profileAsked (hasAgreed selectiveAccess l) (hasAgreed blockTransfer l) i s
+
+-- a body after H's read of the profile, and after the numbered requests 1 to k - 1 besides, each of them granted
+pub data AfterBlock (l : Line) (b : Body) : (k : ℕ) → Body → Type 0 where
+  first :
+      (i : ℕ) (s : Selection)
+      → hasAgreed getService l ≡ true
+      → turned (ask (profileAskedOn l i s)) b .refusal ≡ 0
+      → AfterBlock l b 1 (turned (ask (profileAskedOn l i s)) b .body)
+  next : (i k : ℕ) {c : Body} → AfterBlock l b k c → turned (goOn i k) c .refusal ≡ 0 → AfterBlock l b (k + 1) (turned (goOn i k) c .body)
+
+-- the owner gives a meter these registers, then these columns
+abbrev pub setUp : Protocol → List Register → List Name → Model → Model
+setUp p rs cs m = step p (owner (setColumns cs)) (step p (owner (giveRegisters rs)) m .next) .next
+
+-- a sound meter with the same line, on which a transfer runs, and which is this one once the rows are others; where this one has no rows,
+-- the owner's calls lead to it
+pub record EndedFrom (m : Model) : Type 0 where
+  pub before : Model
+  pub isSound : sound before ≡ true
+  pub line : before .line ≡ m .line
+  pub running : runs (before .body .transfer) ≡ true
+  pub becomes : withOtherRows (m .body .store) (before .body) ≡ m .body
+  pub emptied : m .body .store .rows ≡ [] → (p : Protocol) → setUp p (m .body .store .registers) (m .body .store .columns) before ≡ m
+
+-- "A transfer that no calls could have left, with H's association and the rows as they stand, makes a state unsound." The other way
+-- round, one that passes the test is one that calls leave. One that runs is left by a read of the same rows and the requests after it, on
+-- a body that has none. One that was ended is left by the owner's calls on a meter on which one ran, where there are no rows. Where there
+-- are, no more is claimed than that the rows are others: their record numbers and clocks need not be ones that captures give.
+pub record PossibleAreLeft : Type 0 where
+  pub running :
+      (l : Line) (b : Body) (p : Picking) (k : ℕ)
+      → allowed l (running (profile p) k) ≡ true
+      → rowsAllow (b .store) (running (profile p) k) ≡ true
+      → MeasuredPicking p
+      → AfterBlock l (withTransfer idle b) k (withTransfer (running (profile p) k) b)
+  pub ended : (m : Model) → sound m ≡ true → m .body .transfer ≡ ended → EndedFrom m
 
 -- All rows of sixteen columns, fetched from a body by a GET and two numbered requests: three blocks, the first two of them full.
 pub record ThreeBlocks (b : Body) (i j k : ℕ) : Type 0 where

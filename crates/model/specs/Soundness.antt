@@ -19,7 +19,7 @@ use Rattle.model.specs.Periods.{permittedPeriod}
 use Rattle.model.specs.Services.{offered, within, getService, selectiveAccess, blockTransfer}
 use Rattle.model.specs.Selecting.{Picking, whole, numbered, dated, goodRange}
 use Rattle.model.specs.State.{Association, none, pending, associated, Peer, Line, Long, profile, Transfer, idle, running, ended, Store, Model}
-use Rattle.model.specs.Objects.{ownNames, Picked, these, wrong, picked, longData}
+use Rattle.model.specs.Objects.{ownNames, longData}
 
 -- What the owner's calls accept.
 
@@ -88,7 +88,7 @@ hasAgreed s l = within s (inForce (l .han .peer .association))
 abbrev pub takesBlocks : Line → Bool
 takesBlocks l = hasAgreed getService l && hasAgreed blockTransfer l
 
--- for one with a selector by its service besides
+-- a read by a selector needs selective access besides
 abbrev pub couldPick : Picking → Line → Bool
 couldPick whole l = true
 couldPick (numbered from to) l = hasAgreed selectiveAccess l
@@ -103,28 +103,24 @@ allowed l idle = true
 allowed l (running x k) = takesBlocks l && couldAsk x l
 allowed l ended = takesBlocks l
 
-abbrev pub areRows : Picked → Bool
-areRows (these rs) = true
-areRows (wrong c) = false
-
+-- the read would not be denied, whatever the rows; where it gives none, its data are too short to have begun a transfer
 abbrev pub goodPicking : Picking → Bool
 goodPicking whole = true
 goodPicking (numbered from to) = true
 goodPicking (dated from to) = goodRange from to
 
--- the read would not be denied
-abbrev pub couldGrant : Long → Store → Bool
-couldGrant (profile p) s = goodPicking p && areRows (picked p (s .rows))
+abbrev pub couldGrant : Long → Bool
+couldGrant (profile p) = goodPicking p
 
--- "and the rows": the read has data, too long for one frame, and more of them come after the block that went out last
-unfoldable pub goesOn : Store → Transfer → Bool
-goesOn s idle = true
-goesOn s (running x k) =
-    couldGrant x s
-    && ltb (dataRoom longestSent) (length (longData x s))
-    && leb 1 k
-    && ltb (blockRoom longestSent * k) (length (longData x s))
-goesOn s ended = true
+-- data of n bytes are too long for one frame, and more of them come after block k
+abbrev pub moreComes : (n k : ℕ) → Bool
+moreComes n k = ltb (dataRoom longestSent) n && leb 1 k && ltb (blockRoom longestSent * k) n
+
+-- "and the rows": the read has data in blocks, and more of them come after the one that went out last
+unfoldable pub rowsAllow : Store → Transfer → Bool
+rowsAllow s idle = true
+rowsAllow s (running x k) = couldGrant x && moreComes (length (longData x s)) k
+rowsAllow s ended = true
 
 -- The tests.
 
@@ -140,7 +136,7 @@ passes RowCells m = every (λ i r. eqb (length (r .cells)) (length (m .body .sto
 passes AssociationKind m = kindsKnown (m .line)
 passes AssociationOnLink m = linksStand (m .line)
 passes AgreedServices m = servicesOffered (m .line)
-passes TransferPossible m = allowed (m .line) (m .body .transfer) && goesOn (m .body .store) (m .body .transfer)
+passes TransferPossible m = allowed (m .line) (m .body .transfer) && rowsAllow (m .body .store) (m .body .transfer)
 
 -- in the order of document 01, then that of document 02
 abbrev pub soundnessTests : List SoundnessTest

@@ -1,5 +1,12 @@
 // The types that the model of a meter shares with the code: the clients, names, clocks, registers and counters, and the tests of
-// soundness. There are no functions: what a meter holds and does is defined in specs/, and demand 3 is proved over it in proofs/.
+// soundness; and two limits. There are no functions: what a meter holds and does is defined in specs/, and demand 3 is proved over it in
+// proofs/.
+
+// The bytes that data for H may take in one frame, and those of a full block: dataRoom and blockRoom of specs/Limits, of the longest
+// information that is sent.
+pub const DATA_ROOM: usize = 740;
+
+pub const BLOCK_ROOM: usize = 732;
 
 // The clients of the link that cipher: "H" of document 01.
 pub enum CipherClient {

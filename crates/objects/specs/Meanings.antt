@@ -1,9 +1,6 @@
 -- What a name means to a client, as the code answers it: the model's Content, Object and Meaning that each value stands for.
 -- A register's name is the one asked for, so that it need not be held.
-use mathlib.Core.Bool.{Bool}
-use Prim.Native.Nat.{ℕ}
 use Rattle.model.specs.declared.Name.{Name}
-use Rattle.model.specs.declared.Client.{Client}
 use Rattle.model.specs.Objects.{Simple, clock, time, date, device, Content, simple, rows, recordNumber, register, Object, Meaning, known, unknown, Service, Request}
 use Rattle.objects.specs.declared.Plain.{Plain}
 use Rattle.objects.specs.declared.Plain.the-variants.{Clock, Time, Date, Device}

@@ -1,18 +1,23 @@
--- What the last step of a frame call promises: the meter that was ruled, without a transfer that its line does not allow (document 02,
--- Q-4: "the end of H's association forgets it"). `Answered` does not name it.
-use mathlib.Core.Path.{_≡_}
-use mathlib.Core.Bool.{true}
+-- The last step of a frame call: of what is carried out a transfer that the line does not allow is forgotten (document 02, Q-4: "the end
+-- of H's association forgets it"). `Answered` does not name it.
+use mathlib.Core.Bool.{cond}
+use Rattle.model.specs.State.{Line}
 use Rattle.model.specs.Soundness.{allowed}
-use Rattle.model.specs.Calls.{settled}
 use Rattle.line.specs.View.{lineOf}
+use Rattle.picks.specs.declared.Transfer.{Transfer}
+use Rattle.picks.specs.Canonical.{noTransfer}
 use Rattle.picks.specs.Transfers.{transferOf}
-use Rattle.meter.specs.View.{view}
+use Rattle.body.specs.Change.{holding}
 use Rattle.ending.specs.declared.Received.{Received}
+use Rattle.ending.specs.Inner.{received, meterWith}
 
--- the number, the count and the line are as they were, and so is all where the line allows the transfer
-pub record Settles (a r : Received) : Type 0 where
-  pub refusal : r .refusal ≡ a .refusal
-  pub count : r .count ≡ a .count
-  pub view : view (r .meter) ≡ settled (view (a .meter))
-  pub line : r .meter .line ≡ a .meter .line
-  pub kept : allowed (lineOf (a .meter .line)) (transferOf (a .meter .body .transfer)) ≡ true → r ≡ a
+-- the transfer that the line keeps
+abbrev pub keptTransfer : Line → Transfer → Transfer
+keptTransfer l t = cond (allowed l (transferOf t)) t noTransfer
+
+-- what comes back, with that transfer
+abbrev pub settledReceived : Received → Received
+settledReceived r =
+    let l = r .meter .line in
+    let b = r .meter .body in
+    received (r .refusal) (r .count) (meterWith l (holding (b .number) (b .rows) (keptTransfer (lineOf l) (b .transfer)) b))

@@ -4,10 +4,10 @@ use asking::ask_ciphered;
 use asking::ask_plain;
 use cosem::Exception;
 use cosem::Tag;
-use ending::Received;
+use ending::Heard;
 use ending::Told;
+use ending::alone;
 use ending::except;
-use ending::joined;
 use entering::associate;
 use entering::hear_ciphered;
 use hdlc::Head;
@@ -19,7 +19,7 @@ ghost use Rattle.cosem.specs.Tags.{tagIn};
 ghost use Rattle.line.specs.View.{lineOf};
 ghost use Rattle.protocol.specs.Decide.{byTag, carried, conversed, released};
 ghost use Rattle.replies.specs.Room.{HasRoom};
-ghost use Rattle.ending.specs.Inner.{Follows, Ready, Tells};
+ghost use Rattle.ending.specs.Inner.{Hears, Ready, Tells};
 
 // An APDU.
 pub fn carry(
@@ -29,13 +29,13 @@ pub fn carry(
     head: Head,
     apdu: &[u8],
     out: &mut [u8],
-) -> Received
+) -> Heard
     requires { ⌜ Ready meter (now out) ⌝ }
-    ensures { λ r. ⌜ Follows (carried (lineOf (meter .line)) secrets client head (now (apdu .entry))) meter (now (out .entry)) (now (out .exit)) r ⌝ }
+    ensures { λ r. ⌜ Hears (carried (lineOf (meter .line)) secrets client head (now (apdu .entry))) meter (now (out .entry)) (now (out .exit)) r ⌝ }
 {
     let line = meter.line;
     if !line::is_up(line, client) {
-        return joined(refuse(line, head, out), meter);
+        return alone(refuse(line, head, out));
     }
     converse(meter, secrets, client, head, apdu, out)
 }
@@ -48,20 +48,20 @@ fn converse(
     head: Head,
     apdu: &[u8],
     out: &mut [u8],
-) -> Received
+) -> Heard
     requires { ⌜ Ready meter (now out) ⌝ }
-    ensures { λ r. ⌜ Follows (conversed (lineOf (meter .line)) secrets client head (now (apdu .entry)) (tagIn (now (apdu .entry)))) meter (now (out .entry)) (now (out .exit)) r ⌝ }
+    ensures { λ r. ⌜ Hears (conversed (lineOf (meter .line)) secrets client head (now (apdu .entry)) (tagIn (now (apdu .entry)))) meter (now (out .entry)) (now (out .exit)) r ⌝ }
 {
     let line = meter.line;
     let tag = cosem::tag_in(apdu);
     if association::is_unknown(tag) {
-        return joined(except(line, head, Exception::ServiceUnknown, out), meter);
+        return alone(except(line, head, Exception::ServiceUnknown, out));
     }
     if !association::is_permitted(line, client, tag) {
-        return joined(except(line, head, Exception::ServiceNotAllowed, out), meter);
+        return alone(except(line, head, Exception::ServiceNotAllowed, out));
     }
     if !association::is_bit_agreed(line, client, tag) {
-        return joined(except(line, head, Exception::ServiceNotAllowed, out), meter);
+        return alone(except(line, head, Exception::ServiceNotAllowed, out));
     }
     by_tag(meter, secrets, client, head, apdu, tag, out)
 }
@@ -75,22 +75,20 @@ fn by_tag(
     apdu: &[u8],
     tag: Tag,
     out: &mut [u8],
-) -> Received
+) -> Heard
     requires { ⌜ Ready meter (now out) ⌝ }
-    ensures { λ r. ⌜ Follows (byTag (lineOf (meter .line)) secrets client head (now (apdu .entry)) tag) meter (now (out .entry)) (now (out .exit)) r ⌝ }
+    ensures { λ r. ⌜ Hears (byTag (lineOf (meter .line)) secrets client head (now (apdu .entry)) tag) meter (now (out .entry)) (now (out .exit)) r ⌝ }
 {
     let line = meter.line;
     match tag {
-        Tag::Aarq => joined(associate(line, secrets, client, head, apdu, out), meter),
-        Tag::Rlrq => joined(release(line, client, head, apdu, out), meter),
+        Tag::Aarq => alone(associate(line, secrets, client, head, apdu, out)),
+        Tag::Rlrq => alone(release(line, client, head, apdu, out)),
         Tag::PlainRequest(kind) => ask_plain(meter, client, head, kind, apdu, out),
-        Tag::GlobalAction => {
-            joined(hear_ciphered(line, secrets, client, head, apdu, out), meter)
-        }
+        Tag::GlobalAction => { alone(hear_ciphered(line, secrets, client, head, apdu, out)) }
         Tag::DedicatedRequest(kind) => {
             ask_ciphered(meter, secrets, client, head, kind, apdu, out)
         }
-        Tag::Unknown => joined(except(line, head, Exception::ServiceUnknown, out), meter),
+        Tag::Unknown => alone(except(line, head, Exception::ServiceUnknown, out)),
     }
 }
 

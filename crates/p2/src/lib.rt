@@ -3,11 +3,14 @@
 mod converse;
 mod links;
 
+use ending::Heard;
 use ending::Received;
-use ending::joined;
+use ending::alone;
 use ending::kept;
 use hdlc::Frame;
+use line::LineState;
 use meter::Meter;
+use picks::Transfer;
 use protocol::Secrets;
 ghost use mathlib.Core.Path.{_≡_};
 ghost use mathlib.Core.List.{[]};
@@ -16,9 +19,9 @@ ghost use Rattle.model.specs.Calls.{lentRefusal};
 ghost use Rattle.hdlc.specs.Reading.{readFrame};
 ghost use Rattle.line.specs.View.{lineOf};
 ghost use Rattle.protocol.specs.Decide.{heard};
-ghost use Rattle.ending.specs.Inner.{Follows, Ready, received};
+ghost use Rattle.ending.specs.Inner.{Hears, Ready, carriedOut, received};
 ghost use Rattle.p2.specs.Promise.{Answered, lent};
-ghost use Rattle.p2.specs.Settling.{Settles};
+ghost use Rattle.p2.specs.Settling.{keptTransfer, settledReceived};
 
 // The reply room that a call asks for.
 const REPLY_ROOM: usize = 779;
@@ -42,7 +45,8 @@ pub fn receive(
         return refused(3, meter);
     }
     let secrets = association::secrets_of(guk, ak, challenge);
-    settle(hear(meter, secrets, frame, reply))
+    let heard = hear(meter, secrets, frame, reply);
+    settle(heard, meter)
 }
 
 // What is refused of what is lent, whatever the meter and the frame are: 1, 2, or 0 where it is taken.
@@ -75,46 +79,52 @@ fn refused(refusal: u8, meter: Meter) -> Received
     }
 }
 
-// The end of H's association forgets its transfer, ended or not.
-fn settle(answer: Received) -> Received
-    ensures { λ r. ⌜ Settles answer r ⌝ }
+// What was heard of a frame is carried out. The end of H's association forgets its transfer, ended or not.
+fn settle(heard: Heard, meter: Meter) -> Received
+    ensures { λ r. ⌜ r ≡ settledReceived (carriedOut meter heard) ⌝ }
 {
-    let meter = answer.meter;
-    let line = meter.line;
-    let mut body = meter.body;
-    let transfer = body.transfer;
-    if meter::is_allowed(line, transfer) {
-        return answer;
-    }
-    let none = picks::no_transfer();
-    body.transfer = none;
+    let line = heard.line;
+    let change = heard.change;
+    let part = change.part;
+    let held = meter.body;
+    let transfer = held.transfer;
+    let left = body::left_by(change, transfer);
+    let kept = kept_transfer(line, left);
+    let body = body::changed(held, part, kept);
     let next = Meter { line, body };
     Received {
-        refusal: answer.refusal,
-        count: answer.count,
+        refusal: heard.refusal,
+        count: heard.count,
         meter: next,
     }
 }
 
+// The transfer, where the line allows it; else none.
+fn kept_transfer(line: LineState, transfer: Transfer) -> Transfer
+    ensures { λ r. ⌜ r ≡ keptTransfer (lineOf line) transfer ⌝ }
+{
+    if meter::is_allowed(line, transfer) {
+        return transfer;
+    }
+    picks::no_transfer()
+}
+
 // A frame, on a sound meter, with enough room and keys of the right lengths.
-fn hear(meter: Meter, secrets: Secrets, frame: &[u8], out: &mut [u8]) -> Received
+fn hear(meter: Meter, secrets: Secrets, frame: &[u8], out: &mut [u8]) -> Heard
     requires { ⌜ Ready meter (now out) ⌝ }
-    ensures { λ r. ⌜ Follows (heard (lineOf (meter .line)) secrets (now (frame .entry)) (readFrame (now (frame .entry)))) meter (now (out .entry)) (now (out .exit)) r ⌝ }
+    ensures { λ r. ⌜ Hears (heard (lineOf (meter .line)) secrets (now (frame .entry)) (readFrame (now (frame .entry)))) meter (now (out .entry)) (now (out .exit)) r ⌝ }
 {
     let line = meter.line;
     let read = hdlc::read_frame(frame);
     match read {
-        Frame::Unanswered(test) => joined(kept(hdlc::number_of(test), line), meter),
-        Frame::Rejected(test, head) => joined(links::reject(line, head, test, out), meter),
+        Frame::Unanswered(test) => alone(kept(hdlc::number_of(test), line)),
+        Frame::Rejected(test, head) => alone(links::reject(line, head, test, out)),
         Frame::LinkUp {
             client,
             head,
             information,
-        } => joined(links::link_up(line, client, head, information, out), meter),
-        Frame::LinkDown { client, head } => joined(
-            links::link_down(line, client, head, out),
-            meter,
-        ),
+        } => alone(links::link_up(line, client, head, information, out)),
+        Frame::LinkDown { client, head } => alone(links::link_down(line, client, head, out)),
         Frame::Apdu {
             client,
             head,

@@ -1,5 +1,6 @@
--- A transfer that is cleared: it holds the same, and it is the one transfer that holds it.
+-- A transfer that is cleared: it holds the same, and it is the one transfer that holds it. One that other rows end.
 use mathlib.Core.Path.{_≡_, refl}
+use Rattle.model.specs.State.{broken}
 use Rattle.picks.specs.declared.PickingKind.{PickingKind}
 use Rattle.picks.specs.declared.PickingKind.the-variants.{Whole, Dated, Numbered}
 use Rattle.picks.specs.declared.Picking.{Picking}
@@ -7,7 +8,7 @@ use Rattle.picks.specs.declared.Progress.{Progress}
 use Rattle.picks.specs.declared.Progress.the-variants.{Idle, Running, Ended}
 use Rattle.picks.specs.declared.Transfer.{Transfer}
 use Rattle.picks.specs.Transfers.{pickingAs, pickingOf, transferAs, transferOf}
-use Rattle.picks.specs.Canonical.{clearedAs, clearedPicking, clearedBy, clearedTransfer, pickingWith, transferWith}
+use Rattle.picks.specs.Canonical.{brokenBy, brokenTransfer, clearedAs, clearedPicking, clearedBy, clearedTransfer, pickingWith, transferWith}
 
 picking-clear : (p : Picking) (k : PickingKind) → (pickingOf (clearedAs k p) ≡ pickingAs k p) × (clearedAs k p ≡ pickingWith (pickingAs k p))
 unfolding pickingOf
@@ -30,3 +31,14 @@ transfer-same t = transfer-clear t (t .progress) .0
 pub transfer-canonical : (t : Transfer) → clearedTransfer t ≡ transferWith (transferOf t)
 unfolding transferOf clearedTransfer
 transfer-canonical t = transfer-clear t (t .progress) .1
+
+-- Ended by other rows.
+
+pub broken-as : (t : Transfer) {r : Transfer} → r ≡ brokenTransfer t → transferOf r ≡ broken (transferOf t)
+unfolding brokenTransfer transferOf
+broken-as t e = rw e (go (t .progress) refl)
+  where
+    go : (p : Progress) → t .progress ≡ p → transferAs (brokenBy (t .progress) t .progress) (brokenBy (t .progress) t) ≡ broken (transferAs (t .progress) t)
+    go Idle q = rw q refl
+    go Running q = rw q refl
+    go Ended q = rw q refl

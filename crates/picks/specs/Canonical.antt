@@ -35,6 +35,15 @@ runningTransfer p k = record { progress = Running; picking = p; block = k }
 abbrev pub endedTransfer : Transfer
 endedTransfer = record { progress = Ended; picking = wholePicking; block = 0 }
 
+-- the transfer once the rows are others: one that runs is ended
+abbrev pub brokenBy : Progress → Transfer → Transfer
+brokenBy Idle t = t
+brokenBy Running t = endedTransfer
+brokenBy Ended t = t
+
+unfoldable pub brokenTransfer : Transfer → Transfer
+brokenTransfer t = brokenBy (t .progress) t
+
 -- Cleared.
 
 abbrev pub clearedAs : PickingKind → Picking → Picking

@@ -10,17 +10,15 @@ pub use rows::all_rows;
 pub use rows::count_marks;
 pub use rows::pick_entries;
 pub use rows::pick_range;
-pub use rows::pick_rows;
 pub use rows::rows_of;
 pub use sizes::rows_size;
 pub use transfers::after_block;
 pub use transfers::broken;
 pub use transfers::clear_transfer;
 pub use transfers::dated;
-pub use transfers::ended_transfer;
-pub use transfers::goes_on;
 pub use transfers::no_transfer;
 pub use transfers::numbered;
+pub use transfers::rows_allow;
 pub use transfers::running;
 pub use transfers::whole;
 

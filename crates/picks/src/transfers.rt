@@ -7,28 +7,24 @@ use crate::Progress;
 use crate::Transfer;
 use crate::rows;
 use crate::sizes;
+use model::BLOCK_ROOM;
 use model::Clock;
+use model::DATA_ROOM;
 use store::Rows;
 ghost use mathlib.Core.Path.{_≡_};
 ghost use mathlib.Core.Bool.{cond};
 ghost use Prim.Native.Nat.{_<_};
-ghost use Rattle.model.specs.State.{Store, broken as brokenOff, idle, profile, running as runningAt};
-ghost use Rattle.model.specs.Soundness.{goesOn};
+ghost use Rattle.model.specs.State.{Store, idle, profile, running as runningAt};
+ghost use Rattle.model.specs.Soundness.{moreComes, rowsAllow};
 ghost use Rattle.store.specs.Lists.{entriesOf};
 ghost use Rattle.picks.specs.Sizes.{Even};
-ghost use Rattle.picks.specs.Canonical.{clearedPicking, clearedTransfer, datedPicking, endedTransfer, noTransfer, numberedPicking, runningTransfer, wholePicking};
-ghost use Rattle.picks.specs.Transfers.{moreComes, pickingOf, transferOf};
-
-// The bytes that data for H may take, and those of a full block: the model's dataRoom and blockRoom of the longest information
-// that is sent.
-const DATA_ROOM: usize = 740;
-
-const BLOCK_ROOM: usize = 732;
+ghost use Rattle.picks.specs.Canonical.{brokenTransfer, clearedPicking, clearedTransfer, datedPicking, endedTransfer, noTransfer, numberedPicking, runningTransfer, wholePicking};
+ghost use Rattle.picks.specs.Transfers.{pickingOf, transferOf};
 
 // Whether the rows, each with a cell for each column, could have left the transfer.
-pub fn goes_on(rows: Rows, columns: usize, transfer: Transfer) -> bool
+pub fn rows_allow(rows: Rows, columns: usize, transfer: Transfer) -> bool
     requires { ⌜ Even rows columns ⌝ }
-    ensures { λ r. ⌜ ((s : Store) → s .rows ≡ entriesOf rows → r ≡ goesOn s (transferOf transfer)) ⌝ }
+    ensures { λ r. ⌜ ((s : Store) → s .rows ≡ entriesOf rows → r ≡ rowsAllow s (transferOf transfer)) ⌝ }
 {
     let progress = transfer.progress;
     match progress {
@@ -44,7 +40,7 @@ pub fn goes_on(rows: Rows, columns: usize, transfer: Transfer) -> bool
 // Whether they could have left one of this picking that runs.
 fn runs_on(rows: Rows, columns: usize, picking: Picking, block: u32) -> bool
     requires { ⌜ Even rows columns ⌝ }
-    ensures { λ r. ⌜ ((s : Store) → s .rows ≡ entriesOf rows → r ≡ goesOn s (runningAt (profile (pickingOf picking)) block)) ⌝ }
+    ensures { λ r. ⌜ ((s : Store) → s .rows ≡ entriesOf rows → r ≡ rowsAllow s (runningAt (profile (pickingOf picking)) block)) ⌝ }
 {
     let p = rows::pick_rows(rows, picking);
     match p {
@@ -72,7 +68,7 @@ fn more_comes(size: usize, block: usize) -> bool
 
 // The transfer once the rows are others: one that runs is ended.
 pub fn broken(transfer: Transfer) -> Transfer
-    ensures { λ r. ⌜ transferOf r ≡ brokenOff (transferOf transfer) ⌝ }
+    ensures { λ r. ⌜ r ≡ brokenTransfer transfer ⌝ }
 {
     let progress = transfer.progress;
     match progress {

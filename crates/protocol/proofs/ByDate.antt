@@ -3,14 +3,11 @@
 use mathlib.Core.Path.{_≡_, refl, sym, ap, _∙_}
 use mathlib.Core.Bool.{Bool, true}
 use mathlib.Core.List.{List, [], _∷_, flatMap}
-use Prim.Native.Nat.{ℕ, zero, suc, _≤_}
-use native.Mathlib.Omega.{arith}
+use Prim.Native.Nat.{ℕ, _≤_}
 use lib.Dec.{lit<, lit≤}
 use lib.ListN.{length}
 use borrow.Author.Tests.{le-leb}
 use Rattle.wire.specs.Numbers.{lengthField}
-use Rattle.wire.specs.Reading.{sameBytes, skipped, expected, filled, numberAt, lengthAt}
-use Rattle.axdr.specs.Values.{greatestDepth, layoutOf, elementsEnd, valueWithin, valueEnd}
 use Rattle.model.specs.declared.Client.the-variants.{Ciphering}
 use Rattle.model.specs.declared.CipherClient.the-variants.{Han}
 use Rattle.model.specs.declared.Clock.{Clock}
@@ -18,20 +15,18 @@ use Rattle.model.specs.Limits.{longestSent, longestReceived, greatestApdu, enve
 use Rattle.model.specs.Clocks.{februaryDays, daysIn, realDate, realTime, fixedBytes, validClock, daysOfMonths, daysOfYears, dayNumber, moment, later, inRange}
 use Rattle.model.specs.Periods.{periods}
 use Rattle.model.specs.Services.{within}
-use Rattle.model.specs.Selecting.{selected, Picking, dated, rangeSelector, rangeDescriptor, goodRange}
+use Rattle.model.specs.Selecting.{Selection, selected, Picking, dated, rangeSelector, rangeDescriptor, goodRange}
 use Rattle.model.specs.State.{Entry, Body, Model, withBody, withStore, withRows, newClock, newMeter, noCounters}
-use Rattle.model.specs.Soundness.{acceptedRegisters, acceptedColumns, allowed, goesOn, sound}
+use Rattle.model.specs.Soundness.{acceptedRegisters, acceptedColumns, allowed, rowsAllow, sound}
 use Rattle.model.specs.Objects.{Turn, granted, rowData, rowsData, rowsWithin, fitting, getAnswer}
 use Rattle.model.specs.Calls.{Lent, settled}
 use Rattle.model.specs.Archive.{rowsOf}
 use Rattle.model.specs.ByDate.{done, taken, profileRequest, readTurn, rowsResult}
 use Rattle.model.proofs.LimitFacts.{data-room}
-use Rattle.model.proofs.ByDate.{rows-kept, kept-only, range-turned, both-kept}
-use Rattle.cosem.specs.declared.Wanted.the-variants.{ReadSelected}
-use Rattle.cosem.specs.declared.Asked.{Asked}
+use Rattle.model.proofs.ByDate.{rows-kept, kept-only, range-described, range-turned, both-kept}
 use Rattle.cosem.specs.declared.Reading.the-variants.{Asks}
 use Rattle.cosem.specs.declared.ServiceKind.the-variants.{Get}
-use Rattle.cosem.specs.Requests.{optionalPart, lastValue, readGet, readGets, readService, nameIn, requested}
+use Rattle.cosem.specs.Requests.{readService, requested}
 use Rattle.protocol.specs.Clients.{selectiveIn, blocksIn}
 use Rattle.protocol.specs.Decide.{accepted, advanced}
 use Rattle.protocol.specs.Outcomes.{replied, toH}
@@ -41,39 +36,22 @@ use Rattle.protocol.proofs.Turns.{read-fits}
 use Rattle.protocol.proofs.Settling.{settled-idle}
 use Rattle.protocol.proofs.Enclosed.{next-counter, someLine, someMeter, someLent, some-sends}
 use Rattle.protocol.proofs.SecondRow.{answer-opens}
+use Rattle.protocol.proofs.RowsAsked.{rowsAsked, rows-asked, rows-requested}
 
 -- The request.
 
--- what holds of every list of n numbers, number by number
-abbrev EachOf : ℕ → (List ℕ → Type 0) → Type 0
-EachOf zero P = P []
-EachOf (suc n) P = (x : ℕ) → EachOf n (λ xs. P (x ∷ xs))
+abbrev rangeOf : (from to : Clock) → Selection
+rangeOf from to = selected rangeSelector (rangeDescriptor from to)
 
-of-long : (n : ℕ) (P : List ℕ → Type 0) → EachOf n P → (xs : List ℕ) → length xs ≡ n → P xs
-of-long zero P h [] e = h
-of-long zero P h (x ∷ xs) e = absurd (omega arith)
-of-long (suc n) P h [] e = absurd (omega arith)
-of-long (suc n) P h (x ∷ xs) e = of-long n (λ ys. P (x ∷ ys)) (h x) xs (omega arith)
+range-asked : (invoke : ℕ) (from to : Clock) → length (from .bytes) ≡ 12 → length (to .bytes) ≡ 12 → goodRange from to ≡ true
+    → readService Get (getRange invoke from to) ≡ Asks (rowsAsked invoke (rangeOf from to))
+unfolding getRange
+range-asked invoke from to f t g = rows-asked invoke true (rangeOf from to) (dated from to) (range-described from to f t g)
 
--- what holds of every two clocks of twelve bytes, byte by byte
-of-clocks : (P : Clock → Clock → Type 0) → EachOf 12 (λ fs. EachOf 12 (λ ts. P (record { bytes = fs }) (record { bytes = ts })))
-    → (from to : Clock) → length (from .bytes) ≡ 12 → length (to .bytes) ≡ 12 → P from to
-of-clocks P h from to f t =
-    of-long 12 (λ ts. P from (record { bytes = ts })) (of-long 12 (λ fs. EachOf 12 (λ ts. P (record { bytes = fs }) (record { bytes = ts }))) h (from .bytes) f) (to .bytes) t
-
-abbrev rangeAsked : ℕ → Asked
-rangeAsked invoke = record { invoke = invoke; class = 7; wanted = ReadSelected 2 1 14 }
-
-range-asked : (invoke : ℕ) (from to : Clock) → length (from .bytes) ≡ 12 → length (to .bytes) ≡ 12 → readService Get (getRange invoke from to) ≡ Asks (rangeAsked invoke)
-unfolding getRange rangeDescriptor readGets readGet optionalPart lastValue expected skipped numberAt lengthAt sameBytes greatestDepth layoutOf elementsEnd valueWithin valueEnd
-range-asked invoke = of-clocks (λ from to. readService Get (getRange invoke from to) ≡ Asks (rangeAsked invoke)) (λ a b c d e f g h i j k l m n o p q r s t u v w x. refl)
-
-range-requested : (blocks : Bool) (invoke : ℕ) (from to : Clock) → length (from .bytes) ≡ 12 → length (to .bytes) ≡ 12
-    → requested (Ciphering Han) true blocks (getRange invoke from to) (rangeAsked invoke) ≡ profileRequest blocks invoke (selected rangeSelector (rangeDescriptor from to))
-unfolding getRange rangeDescriptor requested nameIn filled
-range-requested blocks invoke =
-    of-clocks (λ from to. requested (Ciphering Han) true blocks (getRange invoke from to) (rangeAsked invoke) ≡ profileRequest blocks invoke (selected rangeSelector (rangeDescriptor from to)))
-    (λ a b c d e f g h i j k l m n o p q r s t u v w x. refl)
+range-requested : (blocks : Bool) (invoke : ℕ) (from to : Clock)
+    → requested (Ciphering Han) true blocks (getRange invoke from to) (rowsAsked invoke (rangeOf from to)) ≡ profileRequest blocks invoke (rangeOf from to)
+unfolding getRange
+range-requested blocks invoke from to = rows-requested true blocks invoke (rangeOf from to)
 
 -- The answer.
 
@@ -87,15 +65,15 @@ rows-read-by-date a m from to counter invoke rs k kept fits =
     let text = getRange invoke from to in
     let line = advanced Han (accepted Han counter (m .line)) in
     let same = kept-only _ (rowsOf m) rs (rowsWithin from to (rowsOf m)) kept (rows-kept from to (rowsOf m)) in
-    let asked = range-asked invoke from to (k .first) (k .last) in
+    let asked = range-asked invoke from to (k .first) (k .last) (k .good) in
     let blocks = blocksIn (Ciphering Han) (m .line) in
-    let request = range-requested blocks invoke from to (k .first) (k .last) in
+    let request = range-requested blocks invoke from to in
     let read =
     range-turned blocks invoke from to (m .body) (k .first) (k .last) (k .good)
     ∙ ap (λ (l : List Entry). readTurn invoke (rowsResult blocks (dated from to) l) (m .body)) (sym same)
     ∙ rows-fit blocks (dated from to) invoke rs (m .body) fits in
     let answer =
-    rw (k .agreed, request) at (next-counter Han a m Get counter text (rangeAsked invoke) (k .isSound) (k .asks) asked)
+    rw (k .agreed, request) at (next-counter Han a m Get counter text (rowsAsked invoke (rangeOf from to)) (k .isSound) (k .asks) asked)
     ∙ ap (λ (x : Turn). record { refusal = x .refusal; sent = toH a (m .line) Han 0xD0 (x .bytes); next = settled (record { line = line; body = x .body }) }) read
     ∙ ap (replied 0 (toH a (m .line) Han 0xD0 (getAnswer invoke (granted (rowsData rs))))) (settled-idle line (m .body)) in
     record {
@@ -116,24 +94,24 @@ abbrev datedMeter : Model
 datedMeter = withBody (withStore (withRows (datedRow 2 ∷ datedRow 1 ∷ []) (someMeter noCounters .body .store)) (someMeter noCounters .body)) (someMeter noCounters)
 
 -- an hour before it, and an hour after it
-abbrev hourBefore : Clock
+abbrev pub hourBefore : Clock
 hourBefore = record { bytes = 0x07 ∷ 0xE0 ∷ 12 ∷ 31 ∷ 0xFF ∷ 23 ∷ 0 ∷ 0 ∷ 0xFF ∷ 0x80 ∷ 0x00 ∷ 0x00 ∷ [] }
 
-abbrev hourAfter : Clock
+abbrev pub hourAfter : Clock
 hourAfter = record { bytes = 0x07 ∷ 0xE1 ∷ 1 ∷ 1 ∷ 0xFF ∷ 1 ∷ 0 ∷ 0 ∷ 0xFF ∷ 0x80 ∷ 0x00 ∷ 0x00 ∷ [] }
 
 abbrev datedLent : Lent
 datedLent = someLent 1 (getRange 0 hourBefore hourAfter)
 
 dated-sound : sound datedMeter ≡ true
-unfolding sound newMeter acceptedRegisters acceptedColumns validClock realDate realTime fixedBytes daysIn februaryDays periods maxRows maxRegisters maxColumns within allowed goesOn
+unfolding sound newMeter acceptedRegisters acceptedColumns validClock realDate realTime fixedBytes daysIn februaryDays periods maxRows maxRegisters maxColumns within allowed rowsAllow
 dated-sound = refl
 
-dated-good : goodRange hourBefore hourAfter ≡ true
+pub dated-good : goodRange hourBefore hourAfter ≡ true
 unfolding goodRange later moment dayNumber daysOfYears daysOfMonths validClock realDate realTime fixedBytes daysIn februaryDays
 dated-good = refl
 
-dated-inside : inRange hourBefore hourAfter newClock ≡ true
+pub dated-inside : inRange hourBefore hourAfter newClock ≡ true
 unfolding inRange later moment dayNumber daysOfYears daysOfMonths daysIn februaryDays
 dated-inside = refl
 

@@ -20,7 +20,7 @@ use Rattle.model.specs.Periods.{periods}
 use Rattle.model.specs.Services.{offered, within}
 use Rattle.model.specs.State.{Association, none, pending, associated, Line, Model, withLine, newPeer, noCounters, newMeter}
 use Rattle.model.specs.declared.SoundnessTest.the-variants.{AssociationOnLink}
-use Rattle.model.specs.Soundness.{acceptedRegisters, acceptedColumns, isNone, linksStand, onLink, allowed, goesOn, sound}
+use Rattle.model.specs.Soundness.{acceptedRegisters, acceptedColumns, isNone, linksStand, onLink, allowed, rowsAllow, sound}
 use Rattle.model.specs.Objects.{Inquiry, goOn, turned}
 use Rattle.model.specs.Calls.{Lent, Wrap, Outcome, serve, decided, settles}
 use Rattle.model.proofs.ListLaws.{both}
@@ -193,7 +193,7 @@ abbrev pub someMeter : Counters → Model
 someMeter n = withLine (someLine n) (newMeter (replicate 16 0) (replicate 8 0) (replicate 8 0) (replicate 8 0))
 
 pub some-sound : (n : Counters) → sound (someMeter n) ≡ true
-unfolding sound newMeter acceptedRegisters acceptedColumns validClock realDate realTime fixedBytes daysIn februaryDays periods maxRows maxRegisters maxColumns within allowed goesOn
+unfolding sound newMeter acceptedRegisters acceptedColumns validClock realDate realTime fixedBytes daysIn februaryDays periods maxRows maxRegisters maxColumns within allowed rowsAllow
 some-sound n = refl
 
 -- and what its H sends

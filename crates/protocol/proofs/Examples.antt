@@ -7,7 +7,7 @@ use Rattle.model.specs.Limits.{longestSent, longestReceived, replyRoom, greates
 use Rattle.model.specs.Clocks.{februaryDays, daysIn, realDate, realTime, fixedBytes, validClock}
 use Rattle.model.specs.Periods.{periods}
 use Rattle.model.specs.State.{newMeter}
-use Rattle.model.specs.Soundness.{acceptedRegisters, acceptedColumns, allowed, goesOn, sound}
+use Rattle.model.specs.Soundness.{acceptedRegisters, acceptedColumns, allowed, rowsAllow, sound}
 use Rattle.model.specs.Selecting.{isEntryDescriptor, describedEntries, described}
 use Rattle.model.specs.Objects.{entriesWrong, entries}
 use Rattle.model.specs.Calls.{lentRefusal, act, step}
@@ -24,5 +24,5 @@ unfolding examples
 examples-numbered = refl
 
 pub examples-hold : ExamplesHold
-unfolding examples shift steps sameBytes checkOf checkFrom checkByte polynomial longestSent longestReceived replyRoom greatestLength maxRows maxRegisters maxColumns februaryDays daysIn realDate realTime fixedBytes validClock periods newMeter acceptedRegisters acceptedColumns allowed goesOn sound isEntryDescriptor describedEntries described entriesWrong entries lentRefusal act step formatOf hcsOf informationOf fcsOf headBytes checked flagged frameOf senderOf firstFailing refusedFrame acceptedFrame readFrame stepTo inWindow linkUp linkDown ruled decide
+unfolding examples shift steps sameBytes checkOf checkFrom checkByte polynomial longestSent longestReceived replyRoom greatestLength maxRows maxRegisters maxColumns februaryDays daysIn realDate realTime fixedBytes validClock periods newMeter acceptedRegisters acceptedColumns allowed rowsAllow sound isEntryDescriptor describedEntries described entriesWrong entries lentRefusal act step formatOf hcsOf informationOf fcsOf headBytes checked flagged frameOf senderOf firstFailing refusedFrame acceptedFrame readFrame stepTo inWindow linkUp linkDown ruled decide
 examples-hold = refl

@@ -14,26 +14,25 @@ use Rattle.model.specs.Names.{sameName}
 use Rattle.model.specs.Services.{within, getService, selectiveAccess, blockTransfer}
 use Rattle.model.specs.Selecting.{Selection}
 use Rattle.model.specs.State.{Association, none, pending, associated, Transfer, idle, running, ended, broken, Line, Body, withTransfer, Model}
-use Rattle.model.specs.Soundness.{inForce, hasAgreed, takesBlocks, couldAsk, allowed, goesOn, sound}
+use Rattle.model.specs.Soundness.{inForce, hasAgreed, takesBlocks, couldAsk, allowed, rowsAllow, sound}
 use Rattle.model.specs.Objects.{Content, simple, rows, recordNumber, register, deviceObject, Meaning, known, unknown, meaning, Service, get, action, Inquiry, goOn, Result, granted, begun, denied, Request, ask, attributeRead, methodInvoked, afterMethod, isLast, longData, Turn, transferAfter, afterRead, afterAction, answered, continued, turned}
 use Rattle.model.specs.Calls.{Lent, Said, Decision, Outcome, answer, serve, decided, keptBy, settles}
 use Rattle.model.proofs.ListLaws.{both, by-test}
 use Rattle.model.proofs.SoundnessLaws.{sound-passes}
 use Rattle.model.proofs.TransferLaws.{Begun, read-begins, begun-kept}
-use Rattle.cosem.specs.declared.Part.{Part}
-use Rattle.cosem.specs.declared.Part.the-variants.{Absent, Present, Wrong}
 use Rattle.cosem.specs.declared.Asked.{Asked}
-use Rattle.cosem.specs.declared.Reading.{Reading}
-use Rattle.cosem.specs.declared.Reading.the-variants.{Asks, GoesOn, Malformed}
+use Rattle.cosem.specs.declared.Reading.the-variants.{Asks}
 use Rattle.cosem.specs.declared.Tag.the-variants.{DedicatedRequest}
 use Rattle.cosem.specs.declared.ServiceKind.{ServiceKind}
-use Rattle.cosem.specs.Requests.{actionNormal, optionalPart, lastValue, actionWith, readAction, readService, serviceIn, requested}
+use Rattle.cosem.specs.declared.ServiceKind.the-variants.{Action}
+use Rattle.cosem.specs.Requests.{readService, serviceIn, requested}
 use Rattle.protocol.specs.Clients.{agreedIn, selectiveIn, blocksIn, isPending, isAssociated}
 use Rattle.protocol.specs.Rulings.{refusalOf, bytesOf, Ruling, says, asks, decision}
 use Rattle.protocol.specs.Decide.{acceptedPlain, acceptedCiphered, requestOf, proved, disproved, ruled, decide, seal, p2}
 use Rattle.protocol.specs.Outcomes.{outcome, apduIn, SentBy, MaySend, enclosedGet, enclosedAction, replied}
 use Rattle.protocol.specs.Lazy.{Enough}
 use Rattle.protocol.specs.InBlocks.{hasH, ForgottenAtTheEnd}
+use Rattle.protocol.proofs.KindLaws.{kindOf, action-no-get, asked-kind}
 use Rattle.protocol.proofs.MayLaws.{may-pending}
 use Rattle.protocol.proofs.Claim.{p2-forgets-transfers}
 use Rattle.protocol.proofs.Leaves as by
@@ -65,30 +64,11 @@ plain-turned q b e = go (q .service)
 
 -- What H may send.
 
--- an ACTION is one by what it wants
-abbrev isAction : Service → Bool
-isAction (get a s) = false
-isAction (action k v) = true
-
-abbrev Acts : List ℕ → Reading → Type 0
-Acts text (Asks q) = isAction (serviceIn text (q .wanted)) ≡ true
-Acts text (GoesOn i n) = Unit {0}
-Acts text Malformed = Unit {0}
-
-action-acts : (text : List ℕ) → Acts text (readAction text)
-unfolding readAction
-action-acts text = go (optionalPart actionNormal text)
-  where
-    go : (p : Part) → Acts text (actionWith text p)
-    go Absent = refl
-    go Present = by-test (Acts text) (lastValue text 13) (λ _. refl) (λ _. tt)
-    go Wrong = tt
-
 -- GET is agreed, or it is an ACTION
 agreed-or-acts : {k : ServiceKind} {x : Association} → MaySend (Ciphering Han) x (DedicatedRequest k) → (text : List ℕ) (q : Asked) → readService k text ≡ Asks q
-    → (within getService (inForce x) ≡ true) ⊎ (isAction (serviceIn text (q .wanted)) ≡ true)
+    → (within getService (inForce x) ≡ true) ⊎ (kindOf (serviceIn text (q .wanted)) ≡ Action)
 agreed-or-acts (enclosedGet e) text q r = inl e
-agreed-or-acts (enclosedAction e) text q r = inr (rw r at (action-acts text))
+agreed-or-acts (enclosedAction e) text q r = inr (asked-kind Action text q r)
 
 -- what was agreed is in force
 in-force : {k : ServiceKind} {x : Association} → MaySend (Ciphering Han) x (DedicatedRequest k) → inForce x ≡ agreedIn x
@@ -113,7 +93,7 @@ module _ (m : Model) (s : sound m ≡ true) (l : Line) (same : ofHan l ≡ ofHan
   is-allowed : allowed l (m .body .transfer) ≡ true
   is-allowed =
       allowed-same l (m .line) (m .body .transfer) same
-      ∙ both (allowed (m .line) (m .body .transfer)) (goesOn (m .body .store) (m .body .transfer)) (sound-passes m s TransferPossible) .0
+      ∙ both (allowed (m .line) (m .body .transfer)) (rowsAllow (m .body .store) (m .body .transfer)) (sound-passes m s TransferPossible) .0
 
   broken-kept : (t : Transfer) → allowed l t ≡ true → Kept (broken t)
   unfolding allowed
@@ -157,7 +137,7 @@ module _ (m : Model) (s : sound m ≡ true) (l : Line) (same : ofHan l ≡ ofHan
     agreed-there : (service : List ℕ) → within service (agreedIn (ofHan (m .line))) ≡ true → hasAgreed service l ≡ true
     agreed-there service e = ap (λ (x : Association). within service (inForce x)) same ∙ ap (within service) (in-force may) ∙ e
 
-    ask-kept : (text : List ℕ) (q : Asked) → readService k text ≡ Asks q → Kept (turned (requestOf (m .line) (Ciphering Han) text q) (m .body) .body .transfer)
+    pub ask-kept : (text : List ℕ) (q : Asked) → readService k text ≡ Asks q → Kept (turned (requestOf (m .line) (Ciphering Han) text q) (m .body) .body .transfer)
     unfolding turned requested
     ask-kept text q r = go (serviceIn text (q .wanted)) refl
       where
@@ -169,7 +149,7 @@ module _ (m : Model) (s : sound m ≡ true) (l : Line) (same : ofHan l ≡ ofHan
 
         gets : (a : ℕ) (y : Selection) → serviceIn text (q .wanted) ≡ get a y → hasAgreed getService l ≡ true
         gets a y e =
-            ⊎-elim (λ g. ap (λ (x : Association). within getService (inForce x)) same ∙ g) (λ g. absurd (false≢true (sym (ap isAction e) ∙ g))) (agreed-or-acts may text q r)
+            ⊎-elim (λ g. ap (λ (x : Association). within getService (inForce x)) same ∙ g) (λ g. absurd (action-no-get (sym g ∙ ap kindOf e))) (agreed-or-acts may text q r)
 
         go : (v : Service) → serviceIn text (q .wanted) ≡ v → Kept (answered p (m .body) w v .body .transfer)
         go (get a y) e =

@@ -32,15 +32,13 @@ use Rattle.cosem.specs.declared.Tag.{Tag}
 use Rattle.cosem.specs.declared.Tag.the-variants.{Aarq, Rlrq, PlainRequest, GlobalAction, DedicatedRequest}
 use Rattle.cosem.specs.declared.ServiceKind.{ServiceKind}
 use Rattle.cosem.specs.declared.ServiceKind.the-variants.{Get, Action}
-use Rattle.cosem.specs.declared.Part.{Part}
-use Rattle.cosem.specs.declared.Part.the-variants.{Absent, Present, Wrong}
 use Rattle.cosem.specs.declared.Asked.{Asked}
 use Rattle.cosem.specs.declared.Exception.{Exception}
 use Rattle.cosem.specs.declared.Exception.the-variants.{ServiceNotAllowed, ServiceUnknown}
 use Rattle.cosem.specs.declared.Reading.{Reading}
 use Rattle.cosem.specs.declared.Reading.the-variants.{Asks, GoesOn, Malformed}
 use Rattle.cosem.specs.Tags.{dedicatedTag, isRelease, releaseResponse, exceptionBytes}
-use Rattle.cosem.specs.Requests.{actionNormal, optionalPart, lastValue, actionWith, readAction, readService}
+use Rattle.cosem.specs.Requests.{readAction, readService}
 use Rattle.acse.specs.declared.Aarq.{Aarq as ReadAarq}
 use Rattle.acse.specs.declared.Aarq.the-variants.{Plain, Ciphered, Departs}
 use Rattle.acse.specs.declared.InitiateRequest.{InitiateRequest}
@@ -53,9 +51,10 @@ use Rattle.protocol.specs.declared.Secrets.{Secrets}
 use Rattle.protocol.specs.Clients.{ciphering, peer, withPeer, linked, associates, counters, agreedIn, blocksIn, lentKeys, dedicatedKeys, permitted, bitAgreed, isUnknown}
 use Rattle.protocol.specs.Rulings.{Test, none as noTest, frame, linkUpWithInformation, p5HoldsV, linkDownWhileDown, dataWhileDown, unknownTag, tagNotPermitted, bitNotAgreed, envelopeUnopened, outsideWindow, malformedApdu, notTheChallenge, refusalOf, nothing, ua, dm, reject, apdu, Ruling, says, asks, refusedAarq}
 use Rattle.protocol.specs.Decide.{heldByP5, linkUp, linkDown, acceptedPlain, acceptedCiphered, initiated, enclosed, associating, released, wrap, requestOf, asked, accepted, advanced, askedInside, isChallenge, provesItself, proved, disproved, challenged, answeredChallenge, admitted, challengeEnclosed, requestEnclosed, byTag, conversed, carried, heard, secretsOf, ruled}
-use Rattle.protocol.specs.Outcomes.{headIn, apduIn, tagSent, Heard, Reaches, MaySend, Unreached, Timely, Opens, byGuk, byKey, Brings, Accepted, Outside, Misshapen, unreadable, numbered, Excepted, ExceptedInside, malformedProof, malformedRequest}
+use Rattle.protocol.specs.Outcomes.{headIn, apduIn, tagSent, Heard, Reaches, MaySend, Unreached, Timely, Opens, byGuk, byKey, Brings, Accepted, Outside, Misshapen, unreadable, withoutTheBit, Excepted, ExceptedInside, malformedProof, malformedRequest}
 use Rattle.protocol.specs.Outcomes as out
 use Rattle.protocol.proofs.MayLaws.{may, may-permitted, may-agreed}
+use Rattle.protocol.proofs.KindLaws.{action-no-get, numbered-kind}
 
 pub data Leaf (l : Line) (a : Lent) : Ruling → Type 0 where
   -- 4, 5; and 8, 9
@@ -96,21 +95,6 @@ pub data Leaf (l : Line) (a : Lent) : Ruling → Type 0 where
   goesOnInside : (c : CipherClient) (k : ServiceKind) {n : ℕ} {text : List ℕ} (invoke number : ℕ) → Brings a l c (DedicatedRequest k) n text → Accepted c n l → readService k text ≡ GoesOn invoke number → blocksIn (Ciphering c) l ≡ true
       → Leaf l a (asks (goOn invoke number) (wrap (a .ak) (Ciphering c) (headIn a) (dedicatedTag k)) (advanced c (accepted c n l)))
 
--- an ACTION is no numbered request
-action-unnumbered : (text : List ℕ) (invoke number : ℕ) → readAction text ≡ GoesOn invoke number → ⊥
-unfolding readAction
-action-unnumbered text i n e = false≢true (sym (go (optionalPart actionNormal text)) ∙ ap isNumbered e)
-  where
-    isNumbered : Reading → Bool
-    isNumbered (Asks q) = false
-    isNumbered (GoesOn j k) = true
-    isNumbered Malformed = false
-
-    go : (p : Part) → isNumbered (actionWith text p) ≡ false
-    go Absent = refl
-    go Present = by-test (λ (r : Reading). isNumbered r ≡ false) (lastValue text 13) (λ _. refl) (λ _. refl)
-    go Wrong = refl
-
 module _ (l : Line) (a : Lent) where
   abbrev Is : Ruling → Type 0
   Is r = Leaf l a r
@@ -147,7 +131,7 @@ module _ (l : Line) (a : Lent) where
   leaf-asked t Malformed e = excepts malformedApdu refl (t .reaches) (out.malformedGet t (misshapen e unreadable))
   leaf-asked t (Asks q) e = serves q t e
   leaf-asked t (GoesOn i n) e =
-      by-test Is (blocksIn Verification l) (goesOn i n t) (λ b. excepts malformedApdu refl (t .reaches) (out.malformedGet t (misshapen e (numbered b))))
+      by-test Is (blocksIn Verification l) (goesOn i n t) (λ b. excepts malformedApdu refl (t .reaches) (out.malformedGet t (misshapen e (withoutTheBit b))))
 
   -- Envelopes of a client that ciphers.
 
@@ -172,7 +156,7 @@ module _ (l : Line) (a : Lent) where
     leaf-inside k n text o w Malformed e = exceptsInside malformedApdu c refl o w (malformedRequest (misshapen e unreadable))
     leaf-inside k n text o w (Asks q) e = servesInside c k q o w e
     leaf-inside k n text o w (GoesOn i j) e =
-        by-test Is (blocksIn (Ciphering c) l) (goesOnInside c k i j o w e) (λ b. exceptsInside malformedApdu c refl o w (malformedRequest (misshapen e (numbered b))))
+        by-test Is (blocksIn (Ciphering c) l) (goesOnInside c k i j o w e) (λ b. exceptsInside malformedApdu c refl o w (malformedRequest (misshapen e (withoutTheBit b))))
 
     leaf-request : (k : ServiceKind) → Timely a l (Ciphering c) (DedicatedRequest k) → Is (requestEnclosed l lent c h k (apduIn a))
     unfolding requestEnclosed
@@ -189,7 +173,7 @@ module _ (l : Line) (a : Lent) where
     leaf-answered : (n : ℕ) (text : List ℕ) → Brings a l c GlobalAction n text → Accepted c n l → (r : Reading) → readAction text ≡ r → Is (answeredChallenge l lent c h n text r)
     leaf-answered n text o w Malformed e = exceptsInside malformedApdu c refl o w (malformedProof e)
     leaf-answered n text o w (Asks q) e = leaf-challenged n text q e o w
-    leaf-answered n text o w (GoesOn i j) e = absurd (action-unnumbered text i j e)
+    leaf-answered n text o w (GoesOn i j) e = absurd (action-no-get (numbered-kind Action text i j e))
 
     leaf-challenge : Timely a l (Ciphering c) GlobalAction → Is (challengeEnclosed l lent c h (apduIn a))
     unfolding challengeEnclosed

@@ -5,6 +5,7 @@ pub mod MayLaws
 pub mod Lines
 pub mod Examples
 pub mod Claim
+pub mod KindLaws
 pub mod Leaves
 pub mod Turns
 pub mod Settling
@@ -13,7 +14,10 @@ pub mod Framed
 pub mod LinkUp
 pub mod Enclosed
 pub mod SecondRow
+pub mod RowsAsked
 pub mod ByDate
 pub mod Entrance
-pub mod InBlocks
 pub mod Forgotten
+pub mod LongReads
+pub mod InBlocks
+pub mod BlocksHappen

@@ -1,6 +1,6 @@
 -- What a client may send, as the table has it, is what `Decide` tests: the tag permitted, and its bit agreed.
 use mathlib.Core.Path.{_≡_, refl}
-use mathlib.Core.Bool.{true, false≢true}
+use mathlib.Core.Bool.{true, false, false≢true}
 use Rattle.model.specs.declared.Client.{Client}
 use Rattle.model.specs.declared.Client.the-variants.{Verification, Ciphering}
 use Rattle.model.specs.declared.CipherClient.{CipherClient}
@@ -32,6 +32,9 @@ may-agreed (enclosedAction e) = e
 
 pub may-pending : {c : CipherClient} {x : Association} → MaySend (Ciphering c) x GlobalAction → isPending x ≡ true
 may-pending challenge = refl
+
+pub may-unassociated : {c : CipherClient} {x : Association} → MaySend (Ciphering c) x GlobalAction → isAssociated x ≡ false
+may-unassociated challenge = refl
 
 pub may-associated : {c : CipherClient} {x : Association} {k : ServiceKind} → MaySend (Ciphering c) x (DedicatedRequest k) → isAssociated x ≡ true
 may-associated (enclosedGet e) = refl

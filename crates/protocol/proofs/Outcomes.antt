@@ -1,7 +1,6 @@
 -- Every frame call is one of the rows of document 01's table, and the cells follow: specs/Outcomes, proved.
-use mathlib.Core.Path.{_≡_, refl, sym, subst, _∙_}
+use mathlib.Core.Path.{_≡_, refl, sym, ap, subst, _∙_}
 use mathlib.Core.Bool.{Bool, true, false, cond, not, _||_, false≢true}
-use mathlib.Core.Logic.{_⊎_, inl, inr}
 use mathlib.Core.List.{List, [], _∷_}
 use Prim.Native.Nat.{ℕ, _≤_, _<_}
 use native.Mathlib.Omega.{arith}
@@ -14,17 +13,18 @@ use Rattle.model.specs.declared.CipherClient.the-variants.{Han}
 use Rattle.model.specs.Limits.{longestSent, replyRoom}
 use Rattle.model.specs.Names.{every}
 use Rattle.model.specs.Periods.{listed}
-use Rattle.model.specs.State.{none, idle, withTransfer, Model}
-use Rattle.model.specs.Soundness.{allowed, sound}
+use Rattle.model.specs.State.{none, Model, withLine}
+use Rattle.model.specs.Soundness.{sound}
 use Rattle.model.specs.Objects.{Request, Inquiry, ask, goOn, turned}
 use Rattle.model.specs.Calls.{Lent, lentRefusal, frame as frameCall, Outcome, refused, serve, decided, settled, settles, act, step}
 use Rattle.model.proofs.ListLaws.{both, every-anywhere}
 use Rattle.model.proofs.StaySound.{settled-stays}
 use Rattle.hdlc.specs.Layout.{frmr}
 use Rattle.hdlc.specs.Replies.{replyFrame}
-use Rattle.cosem.specs.declared.Tag.the-variants.{PlainRequest, GlobalAction, DedicatedRequest}
+use Rattle.cosem.specs.declared.Tag.{Tag}
+use Rattle.cosem.specs.declared.Tag.the-variants.{Aarq, Rlrq, PlainRequest, GlobalAction, DedicatedRequest, Unknown}
 use Rattle.cosem.specs.declared.ServiceKind.{ServiceKind}
-use Rattle.cosem.specs.declared.ServiceKind.the-variants.{Get}
+use Rattle.cosem.specs.declared.ServiceKind.the-variants.{Get, Set, Action}
 use Rattle.cosem.specs.Tags.{dedicatedTag}
 use Rattle.cosem.specs.Requests.{requested}
 use Rattle.counters.specs.Advance.{taken}
@@ -32,10 +32,12 @@ use Rattle.counters.specs.Window.{accepting}
 use Rattle.protocol.specs.Rulings.{Ruling, decision}
 use Rattle.protocol.specs.Clients.{associates, selectiveIn, blocksIn}
 use Rattle.protocol.specs.Decide.{wrap, acceptedPlain, acceptedCiphered, accepted, advanced, proved, disproved, around, seal, secretsOf, ruled, decide, p2}
-use Rattle.protocol.specs.Outcomes.{outcome, headIn, apduIn, SentBy, Timely, replied, said, Accepted, Brings, afterDenial, InquiryOf, its, next, Row, refuses, drops, overLength, badFrame, noLink, notAccepted, exception, denial, denialInside, wrongProof, links, tells, grants, grantsInside, RowsHold, FrameNumbers, Silent, Unchanged, Dropping, Dropped, Excepting, plain, inside, LastAccepted, PlainUnchanged, Advanced, request, proof, DeniedBody, DeniedLine}
+use Rattle.protocol.specs.Outcomes.{outcome, headIn, apduIn, tagSent, SentBy, Timely, replied, said, Accepted, Brings, read, block, action, InquiryOf, its, next, Row, refuses, drops, overLength, badFrame, noLink, notAccepted, exception, denial, denialInside, wrongProof, links, tells, grants, grantsInside, RowsHold, FrameNumbers, Silent, Unchanged, Dropping, Dropped, Excepting, plain, inside, LastAccepted, PlainUnchanged, Advanced, request, proof, DenialLeaves, forgotten, asItWas, DeniedBody, DeniedLine}
 use Rattle.protocol.proofs.Claim.{p2-numbers-allowed}
 use Rattle.protocol.proofs.Numbers.{FrameNumber, four, five, eight, nine, frame-number}
-use Rattle.protocol.proofs.Settling.{counted-same, settled-same, settled-denied, no-blocks-of-v}
+use Rattle.protocol.proofs.MayLaws.{may-unassociated}
+use Rattle.protocol.proofs.Settling.{counted-same, settled-same, settled-denied, settled-ended, no-blocks-of-v}
+use Rattle.protocol.proofs.KindLaws.{asked-kind, numbered-kind}
 use Rattle.protocol.proofs.Leaves as by
 use Rattle.protocol.proofs.Turns as by-turn
 
@@ -62,13 +64,13 @@ module _ (a : Lent) (m : Model) where
     row-stays n bs r = row-next n bs m (settled-stays m s) r
 
     -- the body's answer, to V and to a client that ciphers
-    row-served : (q : Request) → q .client ≡ Verification → Timely a (m .line) Verification (PlainRequest Get) → by-turn.Turning Verification (m .body) (turned (ask q) (m .body))
+    row-served : (q : Request) → q .client ≡ Verification → Timely a (m .line) Verification (PlainRequest Get) → by-turn.PlainTurning (m .body) (turned (ask q) (m .body))
         → Row a m (settles (decided p2 (serve (ask q) (wrap (a .ak) Verification (headIn a) 0xC0) (m .line)) m))
     unfolding seal around
-    row-served q c t (by-turn.grants e) = rw e (grants q t c)
-    row-served q c t (by-turn.denies e b d) = rw (e, b) (row-stays 13 _ (denial t d))
+    row-served q c t (by-turn.plainGrants e) = rw e (grants q t c)
+    row-served q c t (by-turn.plainDenies i k e) = rw e (row-stays 13 _ (denial i k t))
 
-    row-inside : (c : CipherClient) (k : ServiceKind) {asked : List ℕ} (q : Inquiry) (n : ℕ) → InquiryOf c (m .line) q → Brings a (m .line) c (DedicatedRequest k) n asked → Accepted c n (m .line) → by-turn.Turning (Ciphering c) (m .body) (turned q (m .body))
+    row-inside : (c : CipherClient) (k : ServiceKind) {asked : List ℕ} (q : Inquiry) (n : ℕ) → InquiryOf c (m .line) q → Brings a (m .line) c (DedicatedRequest k) n asked → Accepted c n (m .line) → by-turn.Turning k (m .body) (turned q (m .body))
         → Row a m (settles (decided p2 (serve q (wrap (a .ak) (Ciphering c) (headIn a) (dedicatedTag k)) (advanced c (accepted c n (m .line)))) m))
     unfolding seal around taken accepting
     row-inside Han k q n i o w (by-turn.grants e) = rw e (grantsInside q o w i)
@@ -94,7 +96,7 @@ module _ (a : Lent) (m : Model) where
     row-leaf (by.releases c t) = tells _ _
     row-leaf (by.serves q t e) =
         let r = requested Verification (selectiveIn Verification (m .line)) (blocksIn Verification (m .line)) (apduIn a) q in
-        row-served r refl t (by-turn.turning r (m .body))
+        row-served r refl t (by-turn.plain-turning r (m .body) refl (asked-kind Get (apduIn a) q e))
     row-leaf (by.goesOn i n t b) = absurd (no-blocks-of-v m s b)
     row-leaf (by.unopened t) = row-stays 6 _ (refuses 6 refl)
     row-leaf (by.drops c o w) = drops o w
@@ -103,11 +105,9 @@ module _ (a : Lent) (m : Model) where
     row-leaf (by.disproves c invoke n o w) = row-disproved c invoke n o w
     row-leaf (by.servesInside c k {n} {text} q o w e) =
         let r = requested (Ciphering c) (selectiveIn (Ciphering c) (m .line)) (blocksIn (Ciphering c) (m .line)) text q in
-        row-inside c k (ask r) n (its r refl) o w (by-turn.turning r (m .body))
-    row-leaf (by.goesOnInside c k {n} i j o w e b) = row-inside c k (goOn i j) n (next i j b) o w (turning-of c)
-      where
-        turning-of : (c : CipherClient) → by-turn.Turning (Ciphering c) (m .body) (turned (goOn i j) (m .body))
-        turning-of Han = by-turn.next-turning i j (m .body)
+        row-inside c k (ask r) n (its r refl) o w (subst (λ (j : ServiceKind). by-turn.Turning j (m .body) (turned (ask r) (m .body))) (asked-kind k text q e) (by-turn.turning r c (m .body) refl))
+    row-leaf (by.goesOnInside c k {n} {text} i j o w e b) =
+        row-inside c k (goOn i j) n (next i j b) o w (subst (λ (x : ServiceKind). by-turn.Turning x (m .body) (turned (goOn i j) (m .body))) (sym (numbered-kind k text i j e)) (by-turn.next-turning i j (m .body)))
 
   -- refusals 1 and 2, and then 3, come before the frame
   pub row-lent : (P : Outcome → Type 0) → P (refused 1 m) → P (refused 2 m) → P (refused 3 m) → (lentRefusal a ≡ 0 → sound m ≡ true → P (settles (decided p2 (decision (ruled (m .line) a)) m))) → P (outcome a m)
@@ -156,7 +156,7 @@ module _ (a : Lent) (m : Model) where
   silent-row noLink e = absurd (false≢true e)
   silent-row (notAccepted c t) e = absurd (false≢true e)
   silent-row (exception x) e = absurd (false≢true e)
-  silent-row (denial t d) e = absurd (false≢true e)
+  silent-row (denial i k t) e = absurd (false≢true e)
   silent-row (denialInside o w d) e = absurd (false≢true e)
   silent-row (wrongProof invoke o w) e = absurd (false≢true e)
   silent-row (links after) e = absurd (false≢true e)
@@ -172,7 +172,7 @@ module _ (a : Lent) (m : Model) where
   unchanged-row noLink e = refl
   unchanged-row (notAccepted c t) e = refl
   unchanged-row (exception x) e = absurd (false≢true e)
-  unchanged-row (denial t d) e = refl
+  unchanged-row (denial i k t) e = refl
   unchanged-row (denialInside o w d) e = absurd (false≢true e)
   unchanged-row (wrongProof invoke o w) e = absurd (false≢true e)
   unchanged-row (links after) e = absurd (false≢true e)
@@ -188,7 +188,7 @@ module _ (a : Lent) (m : Model) where
   dropped-row noLink e = absurd (omega arith)
   dropped-row (notAccepted c t) e = absurd (omega arith)
   dropped-row (exception x) e = absurd (omega arith)
-  dropped-row (denial t d) e = absurd (omega arith)
+  dropped-row (denial i k t) e = absurd (omega arith)
   dropped-row (denialInside o w d) e = absurd (omega arith)
   dropped-row (wrongProof invoke o w) e = absurd (omega arith)
   dropped-row (links after) e = absurd (omega arith)
@@ -204,7 +204,7 @@ module _ (a : Lent) (m : Model) where
   accepted-row noLink e = absurd (omega arith)
   accepted-row (notAccepted c t) e = absurd (omega arith)
   accepted-row (exception x) e = x
-  accepted-row (denial t d) e = absurd (omega arith)
+  accepted-row (denial i k t) e = absurd (omega arith)
   accepted-row (denialInside o w d) e = absurd (omega arith)
   accepted-row (wrongProof invoke o w) e = absurd (omega arith)
   accepted-row (links after) e = absurd (omega arith)
@@ -228,7 +228,7 @@ module _ (a : Lent) (m : Model) where
   plain-row (notAccepted c t) v e = refl
   plain-row (exception (plain r x)) v e = refl
   plain-row (exception (inside {c} o w x)) v e = one-sender c v (o .timely .reaches .heard .sender)
-  plain-row (denial t d) v e = refl
+  plain-row (denial i k t) v e = refl
   plain-row (denialInside {c} o w d) v e = one-sender c v (o .timely .reaches .heard .sender)
   plain-row (wrongProof invoke {c} o w) v e = one-sender c v (o .timely .reaches .heard .sender)
   plain-row (links after) v e = absurd (false≢true e)
@@ -236,31 +236,45 @@ module _ (a : Lent) (m : Model) where
   plain-row (grants q t c) v e = absurd (false≢true e)
   plain-row (grantsInside q o w c) v e = absurd (false≢true e)
 
-  -- settling keeps the transfer or forgets it
-  kept-or-not : (b : Bool) → (withTransfer (cond b (m .body .transfer) idle) (m .body) ≡ m .body) ⊎ (withTransfer (cond b (m .body .transfer) idle) (m .body) ≡ withTransfer idle (m .body))
-  kept-or-not true = inl refl
-  kept-or-not false = inr refl
+  -- no tag but that of H's GET is it
+  abbrev isReadOfH : Tag → Bool
+  isReadOfH Aarq = false
+  isReadOfH Rlrq = false
+  isReadOfH (PlainRequest k) = false
+  isReadOfH GlobalAction = false
+  isReadOfH (DedicatedRequest Get) = true
+  isReadOfH (DedicatedRequest Set) = false
+  isReadOfH (DedicatedRequest Action) = false
+  isReadOfH Unknown = false
 
-  forgotten-or-not : (forgets : Bool) → (afterDenial forgets (m .body) ≡ m .body) ⊎ (afterDenial forgets (m .body) ≡ withTransfer idle (m .body))
-  forgotten-or-not true = inr refl
-  forgotten-or-not false = inl refl
+  another : {t : Tag} → tagSent a ≡ t → isReadOfH t ≡ false → tagSent a ≡ DedicatedRequest Get → ⊥
+  another e f g = false≢true (sym f ∙ sym (ap isReadOfH e) ∙ ap isReadOfH g)
 
-  denied-row : {o : Outcome} → Row a m o → o .refusal ≡ 13 → (o .next .body ≡ m .body) ⊎ (o .next .body ≡ withTransfer idle (m .body))
-  denied-row (refuses n k) e = inl refl
-  denied-row (drops o w) e = absurd (omega arith)
-  denied-row overLength e = inl refl
-  denied-row badFrame e = inl refl
-  denied-row noLink e = inl refl
-  denied-row (notAccepted c t) e = inl refl
-  denied-row (exception (plain r x)) e = inl refl
-  denied-row (exception (inside o w x)) e = inl refl
-  denied-row (denial t d) e = inl refl
-  denied-row (denialInside {forgets = f} o w d) e = forgotten-or-not f
-  denied-row (wrongProof invoke {c} {n} o w) e = kept-or-not (allowed (advanced c (accepted c n (associates (Ciphering c) none (m .line)))) (m .body .transfer))
-  denied-row (links after) e = absurd (omega arith)
-  denied-row (tells bs after) e = absurd (omega arith)
-  denied-row (grants q t c) e = absurd (omega arith)
-  denied-row (grantsInside q o w c) e = absurd (omega arith)
+  -- a proof comes while there is no transfer, so that the end of the association forgets none
+  proof-kept : (c : CipherClient) {n : ℕ} {asked : List ℕ} → sound m ≡ true → Brings a (m .line) c GlobalAction n asked
+      → settled (withLine (advanced c (accepted c n (associates (Ciphering c) none (m .line)))) m) .body ≡ m .body
+  proof-kept Han {n} s o =
+      ap (λ (x : Model). x .body) (settled-ended (advanced Han (accepted Han n (associates (Ciphering Han) none (m .line)))) (m .body) refl)
+      ∙ sym (ap (λ (x : Model). x .body) (settled-ended (m .line) (m .body) (may-unassociated (o .timely .may))))
+      ∙ ap (λ (x : Model). x .body) (settled-stays m s)
+
+  denied-row : {o : Outcome} → sound m ≡ true → Row a m o → o .refusal ≡ 13 → DenialLeaves a (m .body) (o .next .body)
+  denied-row s (refuses n k) e = absurd (early n k (omega arith))
+  denied-row s (drops o w) e = absurd (omega arith)
+  denied-row s overLength e = absurd (omega arith)
+  denied-row s badFrame e = absurd (omega arith)
+  denied-row s noLink e = absurd (omega arith)
+  denied-row s (notAccepted c t) e = absurd (omega arith)
+  denied-row s (exception x) e = absurd (omega arith)
+  denied-row s (denial i k t) e = asItWas (another (t .tag) refl)
+  denied-row s (denialInside o w (read i k)) e = forgotten (o .timely .tag)
+  denied-row s (denialInside o w (block i j k)) e = forgotten (o .timely .tag)
+  denied-row s (denialInside o w (action i k)) e = asItWas (another (o .timely .tag) refl)
+  denied-row s (wrongProof invoke {c} o w) e = subst (DenialLeaves a (m .body)) (sym (proof-kept c s o)) (asItWas (another (o .timely .tag) refl))
+  denied-row s (links after) e = absurd (omega arith)
+  denied-row s (tells bs after) e = absurd (omega arith)
+  denied-row s (grants q t c) e = absurd (omega arith)
+  denied-row s (grantsInside q o w c) e = absurd (omega arith)
 
   advanced-row : (c : CipherClient) {o : Outcome} → Row a m o → SentBy (Ciphering c) a → o .refusal ≡ 13 → Advanced a (m .line) c (o .next .line)
   advanced-row c (refuses n k) h e = absurd (early n k (omega arith))
@@ -270,7 +284,7 @@ module _ (a : Lent) (m : Model) where
   advanced-row c noLink h e = absurd (omega arith)
   advanced-row c (notAccepted d t) h e = absurd (omega arith)
   advanced-row c (exception x) h e = absurd (omega arith)
-  advanced-row c (denial t d) h e = one-sender c (t .reaches .heard .sender) h
+  advanced-row c (denial i k t) h e = one-sender c (t .reaches .heard .sender) h
   advanced-row c (denialInside {c = d} {n = n} o w x) h e = subst (λ (y : CipherClient). Advanced a (m .line) y (advanced d (accepted d n (m .line)))) (same-sender c d h (o .timely .reaches .heard .sender)) (request o w)
   advanced-row c (wrongProof invoke {c = d} {n} o w) h e = subst (λ (y : CipherClient). Advanced a (m .line) y (advanced d (accepted d n (associates (Ciphering d) none (m .line))))) (same-sender c d h (o .timely .reaches .heard .sender)) (proof o w)
   advanced-row c (links after) h e = absurd (omega arith)
@@ -294,7 +308,9 @@ pub plain-unchanged : PlainUnchanged
 plain-unchanged a m = plain-row a m (rows-hold a m)
 
 pub denied-body : DeniedBody
-denied-body a m = denied-row a m (rows-hold a m)
+denied-body a m =
+    row-lent a m (λ (o : Outcome). o .refusal ≡ 13 → DenialLeaves a (m .body) (o .next .body)) (λ e. absurd (omega arith)) (λ e. absurd (omega arith)) (λ e. absurd (omega arith))
+    (λ _ s. denied-row a m s (row-leaf a m s (by.leaf (m .line) a)))
 
 pub denied-line : DeniedLine
 denied-line a m c = advanced-row a m c (rows-hold a m)

@@ -15,7 +15,7 @@ use Rattle.model.specs.declared.SoundnessTest.the-variants.{AgreedServices, Tra
 use Rattle.model.specs.Services.{offered, within, getService, blockTransfer}
 use Rattle.model.specs.Selecting.{whole, numbered, dated}
 use Rattle.model.specs.State.{Association, none, pending, associated, Line, Long, profile, Transfer, idle, running, ended, Body, withTransfer, Model, withLine}
-use Rattle.model.specs.Soundness.{agreedWithin, inForce, takesBlocks, couldAsk, allowed, goesOn, sound}
+use Rattle.model.specs.Soundness.{agreedWithin, inForce, takesBlocks, couldAsk, allowed, rowsAllow, sound}
 use Rattle.model.specs.Calls.{keptBy, settled}
 use Rattle.model.proofs.ListLaws.{both}
 use Rattle.model.proofs.SoundnessLaws.{sound-passes}
@@ -99,7 +99,7 @@ settled-ended l b e = ap (λ (t : Transfer). record { line = l; body = withTrans
 module _ (m : Model) (s : sound m ≡ true) (x : Long) (k : ℕ) (runs : m .body .transfer ≡ running x k) where
   run-allowed : takesBlocks (m .line) && couldAsk x (m .line) ≡ true
   unfolding allowed
-  run-allowed = rw runs at (both (allowed (m .line) (m .body .transfer)) (goesOn (m .body .store) (m .body .transfer)) (sound-passes m s TransferPossible) .0)
+  run-allowed = rw runs at (both (allowed (m .line) (m .body .transfer)) (rowsAllow (m .body .store) (m .body .transfer)) (sound-passes m s TransferPossible) .0)
 
   pub run-agreed : blocksIn (Ciphering Han) (m .line) ≡ true
   unfolding within

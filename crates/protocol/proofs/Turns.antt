@@ -1,6 +1,6 @@
 -- What the body answers what is asked of it: granted, or denied with a result code and of the body the transfer alone moved; and that it
 -- fits an envelope.
-use mathlib.Core.Path.{_≡_, refl}
+use mathlib.Core.Path.{_≡_, refl, sym, subst}
 use mathlib.Core.Bool.{Bool, not, _&&_}
 use mathlib.Core.List.{List}
 use Prim.Native.Nat.{ℕ, _+_, _≤_, _<_}
@@ -10,6 +10,7 @@ use lib.ListN.{length}
 use borrow.Author.Tests.{leb-true}
 use Rattle.model.specs.declared.Client.{Client}
 use Rattle.model.specs.declared.Client.the-variants.{Verification, Ciphering}
+use Rattle.model.specs.declared.CipherClient.{CipherClient}
 use Rattle.model.specs.declared.CipherClient.the-variants.{Han}
 use Rattle.model.specs.declared.Name.{Name}
 use Rattle.model.specs.Limits.{longestSent, textRoom, dataRoom}
@@ -19,54 +20,68 @@ use Rattle.model.specs.Objects.{Content, Meaning, known, unknown, meaning, serv
 use Rattle.model.proofs.LimitFacts.{text-room, data-room}
 use Rattle.model.proofs.ListLaws.{by-test}
 use Rattle.model.proofs.BlockLaws.{answer-fits, refused-fits}
-use Rattle.protocol.specs.Outcomes.{Denial, read, action as acted, block, afterDenial}
+use Rattle.cosem.specs.declared.ServiceKind.{ServiceKind}
+use Rattle.cosem.specs.declared.ServiceKind.the-variants.{Get, Action}
+use Rattle.protocol.specs.Outcomes.{Denial, read, block, action as acted, afterDenial}
+use Rattle.protocol.proofs.KindLaws.{kindOf, action-no-get}
 
 -- Granted or denied.
 
--- what a denial leaves of the body: the transfer is H's, and V moves nothing of it
-abbrev pub leftBy : Client → Body → (forgets : Bool) → Body
-leftBy Verification b forgets = b
-leftBy (Ciphering Han) b forgets = afterDenial forgets b
+-- to a request of this service, of H
+pub data Turning (k : ServiceKind) (b : Body) (t : Turn) : Type 0 where
+  grants : t .refusal ≡ 0 → Turning k b t
+  denies : {forgets : Bool} → t .refusal ≡ 13 → t .body ≡ afterDenial forgets b → Denial k (t .bytes) forgets → Turning k b t
 
-pub data Turning (c : Client) (b : Body) (t : Turn) : Type 0 where
-  grants : t .refusal ≡ 0 → Turning c b t
-  denies : {forgets : Bool} → t .refusal ≡ 13 → t .body ≡ leftBy c b forgets → Denial (t .bytes) forgets → Turning c b t
+-- a read, by its client
+abbrev readTurn : Client → Body → (invoke : ℕ) → Result → Turn
+readTurn c b invoke r = record { refusal = refusalOf r; bytes = getAnswer invoke r; body = afterRead c r b }
 
-read-turning : (c : Client) (b : Body) (invoke : ℕ) (r : Result) → Turning c b (record { refusal = refusalOf r; bytes = getAnswer invoke r; body = afterRead c r b })
-read-turning c b invoke (granted d) = grants refl
-read-turning c b invoke (begun t d) = grants refl
-read-turning Verification b invoke (denied k) = denies refl refl (read invoke k)
-read-turning (Ciphering Han) b invoke (denied k) = denies refl refl (read invoke k)
+read-turning : (b : Body) (invoke : ℕ) (r : Result) → Turning Get b (readTurn (Ciphering Han) b invoke r)
+read-turning b invoke (granted d) = grants refl
+read-turning b invoke (begun t d) = grants refl
+read-turning b invoke (denied k) = denies refl refl (read invoke k)
 
--- a denied action moves nothing
-action-denied : (c : Client) (b : Body) (invoke k : ℕ) → Turning c b (record { refusal = 13; bytes = actionAnswer invoke (denied k); body = b })
-action-denied Verification b invoke k = denies refl refl (acted invoke k)
-action-denied (Ciphering Han) b invoke k = denies refl refl (acted invoke k)
+action-turning : (b : Body) (invoke : ℕ) (w : Meaning) (r : Result) → Turning Action b (record { refusal = refusalOf r; bytes = actionAnswer invoke r; body = afterAction w b r })
+action-turning b invoke w (granted d) = grants refl
+action-turning b invoke w (begun t d) = grants refl
+action-turning b invoke unknown (denied k) = denies refl refl (acted invoke k)
+action-turning b invoke (known o) (denied k) = denies refl refl (acted invoke k)
 
-action-turning : (c : Client) (b : Body) (invoke : ℕ) (w : Meaning) (r : Result)
-    → Turning c b (record { refusal = refusalOf r; bytes = actionAnswer invoke r; body = afterAction w b r })
-action-turning c b invoke w (granted d) = grants refl
-action-turning c b invoke w (begun t d) = grants refl
-action-turning c b invoke unknown (denied k) = action-denied c b invoke k
-action-turning c b invoke (known o) (denied k) = action-denied c b invoke k
-
-pub turning : (q : Request) (b : Body) → Turning (q .client) b (turned (ask q) b)
+pub turning : (q : Request) (c : CipherClient) (b : Body) → q .client ≡ Ciphering c → Turning (kindOf (q .service)) b (turned (ask q) b)
 unfolding turned
-turning q b = go (meaning (q .client) (q .name) (b .store .registers)) (q .service)
+turning q Han b e = go (meaning (q .client) (q .name) (b .store .registers)) (q .service)
   where
-    go : (w : Meaning) (v : Service) → Turning (q .client) b (answered q b w v)
-    go w (get a s) = read-turning (q .client) b (q .invoke) (attributeRead q a s b w)
-    go w (action k v) = action-turning (q .client) b (q .invoke) w (methodInvoked q k v w)
+    go : (w : Meaning) (v : Service) → Turning (kindOf v) b (answered q b w v)
+    go w (get a s) = subst (λ (c : Client). Turning Get b (readTurn c b (q .invoke) (attributeRead q a s b w))) (sym e) (read-turning b (q .invoke) (attributeRead q a s b w))
+    go w (action k v) = action-turning b (q .invoke) w (methodInvoked q k v w)
 
--- a numbered request, of H
-pub next-turning : (invoke number : ℕ) (b : Body) → Turning (Ciphering Han) b (turned (goOn invoke number) b)
+-- to a numbered request
+pub next-turning : (invoke number : ℕ) (b : Body) → Turning Get b (turned (goOn invoke number) b)
 unfolding turned
 next-turning i n b = go (b .transfer)
   where
-    go : (t : Transfer) → Turning (Ciphering Han) b (continued i n b t)
+    go : (t : Transfer) → Turning Get b (continued i n b t)
     go idle = denies refl refl (block i n 16)
-    go (running x k) = by-test (Turning (Ciphering Han) b) (eqb n k) (λ _. grants refl) (λ _. denies refl refl (block i n 19))
+    go (running x k) = by-test (Turning Get b) (eqb n k) (λ _. grants refl) (λ _. denies refl refl (block i n 19))
     go ended = denies refl refl (block i n 15)
+
+-- to a GET of V, which moves nothing
+pub data PlainTurning (b : Body) (t : Turn) : Type 0 where
+  plainGrants : t .refusal ≡ 0 → PlainTurning b t
+  plainDenies : (invoke code : ℕ) → t ≡ record { refusal = 13; bytes = getAnswer invoke (denied code); body = b } → PlainTurning b t
+
+pub plain-turning : (q : Request) (b : Body) → q .client ≡ Verification → kindOf (q .service) ≡ Get → PlainTurning b (turned (ask q) b)
+unfolding turned
+plain-turning q b e = go (meaning (q .client) (q .name) (b .store .registers)) (q .service)
+  where
+    by-result : (r : Result) → PlainTurning b (readTurn Verification b (q .invoke) r)
+    by-result (granted d) = plainGrants refl
+    by-result (begun t d) = plainGrants refl
+    by-result (denied k) = plainDenies (q .invoke) k refl
+
+    go : (w : Meaning) (v : Service) → kindOf v ≡ Get → PlainTurning b (answered q b w v)
+    go w (get a s) f = subst (λ (c : Client). PlainTurning b (readTurn c b (q .invoke) (attributeRead q a s b w))) (sym e) (by-result (attributeRead q a s b w))
+    go w (action k v) f = absurd (action-no-get f)
 
 -- Its length.
 

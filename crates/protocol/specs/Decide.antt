@@ -128,15 +128,15 @@ abbrev pub requestOf : Line → Client → List ℕ → Asked → Inquiry
 requestOf l c s q = ask (requested c (selectiveIn c l) (blocksIn c l) s q)
 
 -- a numbered request; "without the bit it stays malformed"
-abbrev pub numbered : Line → Client → (malformed goesOn : Ruling) → Ruling
-numbered l c malformed goesOn = cond (blocksIn c l) goesOn malformed
+abbrev pub nextAsked : Line → Client → (malformed wellFormed : Ruling) → Ruling
+nextAsked l c malformed wellFormed = cond (blocksIn c l) wellFormed malformed
 
 -- a plain request
 abbrev pub asked : Line → Secrets → Client → Head → List ℕ → Reading → Ruling
 asked l a c h s Malformed = refusedMalformed h l
 asked l a c h s (Asks q) = asks (requestOf l c s q) (wrap (a .ak) Verification h 0xC0) l
 -- V is not offered the bit, so that on a sound line its numbered request is malformed
-asked l a c h s (GoesOn i n) = numbered l c (refusedMalformed h l) (asks (goOn i n) (wrap (a .ak) Verification h 0xC0) l)
+asked l a c h s (GoesOn i n) = nextAsked l c (refusedMalformed h l) (asks (goOn i n) (wrap (a .ak) Verification h 0xC0) l)
 
 -- the line after an envelope's counter has become the last accepted, and after the meter's own has gone on besides
 abbrev pub accepted : CipherClient → ℕ → Line → Line
@@ -151,7 +151,7 @@ askedInside l a c h k counter text Malformed = refusedMalformed h (accepted c co
 askedInside l a c h k counter text (Asks q) =
     asks (requestOf l (Ciphering c) text q) (wrap (a .ak) (Ciphering c) h (dedicatedTag k)) (advanced c (accepted c counter l))
 askedInside l a c h k counter text (GoesOn i n) =
-    numbered l (Ciphering c) (refusedMalformed h (accepted c counter l))
+    nextAsked l (Ciphering c) (refusedMalformed h (accepted c counter l))
     (asks (goOn i n) (wrap (a .ak) (Ciphering c) h (dedicatedTag k)) (advanced c (accepted c counter l)))
 
 -- The challenge.

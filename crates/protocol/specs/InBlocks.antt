@@ -1,91 +1,129 @@
 -- Answers in blocks at the plug (document 02, Q-4): H's read of the profile whose rows are too long for one frame, the numbered request
--- for the next block, what goes out to each, refusals too, and what H finds in it; what such a request comes to without the bit; that no
--- read is too long where they were; and what frames forget a transfer. Proved in proofs/InBlocks and proofs/Forgotten. That the blocks
--- joined are the data is the model's to say (`JoinedAreTheData`, at this protocol in proofs/Claim), of the requests told of here.
+-- for the next block, what goes out to each, refusals too, and what H finds in it; what each comes to without the bit; that with it no
+-- read is too long; and what frames forget a transfer. Proved in proofs/InBlocks and proofs/Forgotten, and that there are such meters and
+-- frames in proofs/BlocksHappen. That the blocks joined are the data is the model's to say (`JoinedAreTheData`, at this protocol in
+-- proofs/Claim), of the requests told of here.
 use mathlib.Core.Path.{_≡_}
 use mathlib.Core.Bool.{Bool, true, false, cond}
 use mathlib.Core.List.{List, [], _∷_}
 use Prim.Native.Nat.{ℕ, _+_, _*_, _^_, _<_}
 use lib.Dec.{eqb, leb}
-use lib.ListN.{length, take, drop}
+use lib.ListN.{length, take, drop, getD}
 use Rattle.wire.specs.Numbers.{highFirst}
 use Rattle.model.specs.declared.Client.the-variants.{Verification, Ciphering}
 use Rattle.model.specs.declared.CipherClient.the-variants.{Han}
+use Rattle.model.specs.declared.Clock.{Clock}
 use Rattle.model.specs.Limits.{longestSent, dataRoom, blockRoom}
-use Rattle.model.specs.Selecting.{Selection, whole}
-use Rattle.model.specs.State.{Long, profile, Transfer, idle, running, ended, Line, withTransfer, Model, withLine}
+use Rattle.model.specs.Selecting.{Selection, all, selected, Picking, whole, numbered, dated, picking, described}
+use Rattle.model.specs.State.{Entry, Long, profile, Transfer, idle, running, ended, Line, withTransfer, Model, withLine}
 use Rattle.model.specs.Soundness.{sound}
-use Rattle.model.specs.Objects.{get, Request, ask, rowsData, longData, turned}
-use Rattle.model.specs.Calls.{Lent, frame, Wrap, Said, answer, serve, decided}
+use Rattle.model.specs.Objects.{get, Request, ask, rowsData, these, picked, longData, turned}
+use Rattle.model.specs.Calls.{Lent, OwnerCall, frame, owner, Wrap, Said, answer, serve, decided, step}
 use Rattle.model.specs.Archive.{rowsOf}
-use Rattle.model.specs.Blocks.{blockBytes, FirstBlock, NextBlock, refusalBytes}
+use Rattle.model.specs.Blocks.{blockBytes, FirstBlock, NextBlock, Fetches, refusalBytes}
 use Rattle.hdlc.specs.Replies.{apduFrame}
 use Rattle.cosem.specs.declared.Asked.{Asked}
-use Rattle.cosem.specs.declared.Reading.the-variants.{Asks}
+use Rattle.cosem.specs.declared.Reading.the-variants.{Asks, GoesOn}
 use Rattle.cosem.specs.declared.Tag.the-variants.{PlainRequest}
 use Rattle.cosem.specs.declared.ServiceKind.the-variants.{Get}
 use Rattle.cosem.specs.Requests.{readService}
 use Rattle.counters.specs.Advance.{nextCounter}
 use Rattle.envelope.specs.Opening.{opens, opened}
-use Rattle.protocol.specs.Clients.{held, blocksIn, isAssociated}
+use Rattle.protocol.specs.Clients.{held, selectiveIn, blocksIn, isAssociated}
 use Rattle.protocol.specs.Decide.{accepted, advanced, decide, p2}
 use Rattle.protocol.specs.Outcomes.{outcome, headIn, apduOf, SentBy, MaySend, replied, toH}
-use Rattle.protocol.specs.Lazy.{Enough, requestFrame, requestKeys, Asking, getProfile}
+use Rattle.protocol.specs.Lazy.{Enough, requestFrame, requestKeys, Asking}
 
--- A block that H reads.
+-- What H reads.
 
--- this block goes out to H, sealed, the call answers this number, 0 for data and 13 for a refusal, and of the meter the counters and the
+-- this answer goes out to H, sealed, the call answers this number, 0 for data and 13 for a refusal, and of the meter the counters and the
 -- transfer alone move; and what H finds in it: the APDU of the frame opens under H's keys and the meter's title, with the meter's counter
--- plus one, and the text in it is the block
-pub record BlockRead (number : ℕ) (a : Lent) (m : Model) (counter : ℕ) (block : List ℕ) (after : Transfer) : Type 0 where
+-- plus one, and the text in it is the answer
+pub record SealedRead (refusal : ℕ) (a : Lent) (m : Model) (counter : ℕ) (text : List ℕ) (after : Transfer) : Type 0 where
   pub answer :
       outcome a m
       ≡ record {
-        refusal = number;
-        sent = toH a (m .line) Han 0xD0 block;
+        refusal = refusal;
+        sent = toH a (m .line) Han 0xD0 text;
         next = record { line = advanced Han (accepted Han counter (m .line)); body = withTransfer after (m .body) };
       }
   pub found :
       opened (requestKeys Han a (m .line)) (m .line .title) 0xD4 (apduOf (outcome a m .sent))
-      ≡ opens (nextCounter (m .line .han .counters .sent)) block
+      ≡ opens (nextCounter (m .line .han .counters .sent)) text
 
--- The read that begins a transfer.
+-- The read that is too long for one frame, and begins a transfer.
 
--- the first block of all rows
-abbrev pub firstPiece : Model → List ℕ
-firstPiece m = take (blockRoom longestSent) (rowsData (rowsOf m))
+-- a selection as a request has it: none, or a selector and its value
+abbrev pub selectionBytes : Selection → List ℕ
+selectionBytes all = 0x00 ∷ []
+selectionBytes (selected selector value) = 0x01 ∷ selector ∷ value
 
--- it goes out, is not the last, and the transfer of all rows runs after it; as the model has it, so that what is fetched after it joins
-pub record LongBegun (a : Lent) (m : Model) (counter invoke : ℕ) : Type 0 where
-  pub read : BlockRead 0 a m counter (blockBytes invoke 0x00 1 (firstPiece m)) (running (profile whole) 1)
-  pub first : FirstBlock p2 (frame a) m (rowsOf m) (firstPiece m)
+-- a GET of attribute 2 of the profile, with this invoke byte and selection: class 7, 0.0.21.0.6.255
+abbrev pub getRows : (invoke : ℕ) → Selection → List ℕ
+getRows invoke s =
+    0xC0 ∷ 0x01 ∷ invoke ∷ 0x00 ∷ 0x07 ∷ 0x00 ∷ 0x00 ∷ 0x15 ∷ 0x00 ∷ 0x06 ∷ 0xFF ∷ 0x02 ∷ selectionBytes s
 
--- "a read too long for one frame gives its first block", where block transfer was agreed
+-- what H asks, and may, block transfer being agreed or not: its selection means this picking, one with a selector only where selective
+-- access was agreed; and the picking gives these rows, whose data are too long for one frame
+pub record AsksLong (blocks : Bool) (a : Lent) (m : Model) (s : Selection) (p : Picking) (rs : List Entry) (counter invoke : ℕ) : Type 0 where
+  pub isSound : sound m ≡ true
+  pub agreed : blocksIn (Ciphering Han) (m .line) ≡ blocks
+  pub means : described (selectiveIn (Ciphering Han) (m .line)) s ≡ picking p
+  pub gives : picked p (rowsOf m) ≡ these rs
+  pub long : dataRoom longestSent < length (rowsData rs)
+  pub asks : Asking Han a (m .line) Get counter (getRows invoke s)
+
+-- the data of the first block
+abbrev pub firstPiece : List Entry → List ℕ
+firstPiece rs = take (blockRoom longestSent) (rowsData rs)
+
+-- it goes out, is not the last, and the transfer of the picking runs after it; as the model has it, so that what is fetched after it joins
+pub record LongBegun (a : Lent) (m : Model) (p : Picking) (rs : List Entry) (counter invoke : ℕ) : Type 0 where
+  pub read : SealedRead 0 a m counter (blockBytes invoke 0x00 1 (firstPiece rs)) (running (profile p) 1)
+  pub first : FirstBlock p2 (frame a) m rs (firstPiece rs)
+
+-- "a read too long for one frame gives its first block": of all rows, of those from one place to another, of those of a stretch of time
 abbrev pub LongReadBegins : Type 0
 LongReadBegins =
-    (a : Lent) (m : Model) (counter invoke : ℕ)
-    → sound m ≡ true
-    → blocksIn (Ciphering Han) (m .line) ≡ true
-    → Asking Han a (m .line) Get counter (getProfile invoke)
-    → dataRoom longestSent < length (rowsData (rowsOf m))
-    → LongBegun a m counter invoke
+    (a : Lent) (m : Model) (s : Selection) (p : Picking) (rs : List Entry) (counter invoke : ℕ)
+    → AsksLong true a m s p rs counter invoke
+    → LongBegun a m p rs counter invoke
 
 -- and there is such a meter and frame
-pub record LongReadHappens : Type 0 where
+pub record AskedLong (blocks : Bool) (p : Picking) : Type 0 where
   pub lent : Lent
   pub meter : Model
+  pub selection : Selection
+  pub rows : List Entry
   pub counter : ℕ
   pub invoke : ℕ
-  pub isSound : sound meter ≡ true
-  pub agreed : blocksIn (Ciphering Han) (meter .line) ≡ true
-  pub asks : Asking Han lent (meter .line) Get counter (getProfile invoke)
-  pub long : dataRoom longestSent < length (rowsData (rowsOf meter))
+  pub asks : AsksLong blocks lent meter selection p rows counter invoke
+
+-- of each kind
+pub record EachAskedLong (blocks : Bool) : Type 0 where
+  pub ofAll : AskedLong blocks whole
+  pub ofNumbers : AskedLong blocks (numbered 1 0)
+  pub from : Clock
+  pub to : Clock
+  pub ofClocks : AskedLong blocks (dated from to)
+
+abbrev pub LongReadHappens : Type 0
+LongReadHappens = EachAskedLong true
 
 -- The requests after it.
 
 -- a numbered request with this invoke byte and the number of the block received last, of four bytes
 abbrev pub nextRequest : (invoke number : ℕ) → List ℕ
 nextRequest invoke number = 0xC0 ∷ 0x02 ∷ invoke ∷ highFirst 4 number
+
+-- no other bytes are read as one: none with another choice or a shorter number, and none that go on behind it
+abbrev pub NoOtherNumbered : Type 0
+NoOtherNumbered =
+    (s : List ℕ)
+    → ((i : ℕ) → getD s i 0 < 256)
+    → (invoke number : ℕ)
+    → readService Get s ≡ GoesOn invoke number
+    → s ≡ nextRequest invoke number
 
 -- of these data, block k + 1, and whether any come after it
 abbrev pub pieceAfter : (k : ℕ) → List ℕ → List ℕ
@@ -109,7 +147,7 @@ pub record AsksNext (a : Lent) (m : Model) (x : Long) (k counter invoke : ℕ) :
 pub record NextRead (a : Lent) (m : Model) (x : Long) (k counter invoke : ℕ) : Type 0 where
   pub read :
       (let d = longData x (m .body .store) in
-      BlockRead 0 a m counter (blockBytes invoke (lastAfter k d) (k + 1) (pieceAfter k d)) (cond (endsAfter k d) idle (running x (k + 1))))
+      SealedRead 0 a m counter (blockBytes invoke (lastAfter k d) (k + 1) (pieceAfter k d)) (cond (endsAfter k d) idle (running x (k + 1))))
   pub next : (let d = longData x (m .body .store) in NextBlock p2 (frame a) m (lastAfter k d) k (pieceAfter k d))
 
 -- on every sound meter, after every block of every transfer
@@ -118,35 +156,49 @@ NextBlockRead = (a : Lent) (m : Model) (x : Long) (k counter invoke : ℕ) → A
 
 -- So it is not the first block that is read and the second that is pretended: a long read and the request after it, one frame and then
 -- the other, bring blocks 1 and 2 of the rows.
-pub record SecondBlock (a b : Lent) (m : Model) (counter next invoke other : ℕ) : Type 0 where
-  pub first : LongBegun a m counter invoke
-  pub second : NextRead b (outcome a m .next) (profile whole) 1 next other
+pub record SecondBlock (a b : Lent) (m : Model) (p : Picking) (rs : List Entry) (counter next invoke other : ℕ) : Type 0 where
+  pub first : LongBegun a m p rs counter invoke
+  pub second : NextRead b (outcome a m .next) (profile p) 1 next other
   pub same : outcome a m .next .body .store ≡ m .body .store
 
 abbrev pub SecondBlockRead : Type 0
 SecondBlockRead =
-    (a b : Lent) (m : Model) (counter next invoke other : ℕ)
-    → sound m ≡ true
-    → blocksIn (Ciphering Han) (m .line) ≡ true
-    → Asking Han a (m .line) Get counter (getProfile invoke)
-    → dataRoom longestSent < length (rowsData (rowsOf m))
+    (a b : Lent) (m : Model) (s : Selection) (p : Picking) (rs : List Entry) (counter next invoke other : ℕ)
+    → AsksLong true a m s p rs counter invoke
     → Asking Han b (advanced Han (accepted Han counter (m .line))) Get next (nextRequest other 1)
-    → SecondBlock a b m counter next invoke other
+    → SecondBlock a b m p rs counter next invoke other
 
 -- and there are such a meter and two such frames
 pub record SecondBlockHappens : Type 0 where
-  pub begins : LongReadHappens
+  pub begins : AskedLong true whole
   pub lent : Lent
   pub counter : ℕ
   pub invoke : ℕ
   pub asks : Asking Han lent (advanced Han (accepted Han (begins .counter) (begins .meter .line))) Get counter (nextRequest invoke 1)
 
+-- "The blocks joined are exactly the data": there are a meter and calls of which the model's `JoinedAreTheData` speaks. They bring three
+-- blocks; the second is not the last, and between it and the third there is a call of the owner, accepted.
+pub record JoinedHappens : Type 0 where
+  pub meter : Model
+  pub one : Lent
+  pub two : Lent
+  pub between : OwnerCall
+  pub three : Lent
+  pub rows : List Entry
+  pub piece : List ℕ
+  pub next : List ℕ
+  pub rest : List ℕ
+  pub first : FirstBlock p2 (frame one) meter rows piece
+  pub second : NextBlock p2 (frame two) (outcome one meter .next) 0x00 1 next
+  pub isAccepted : step p2 (owner between) (outcome two (outcome one meter .next) .next) .refusal ≡ 0
+  pub fetched : Fetches p2 (outcome one meter .next) 1 (frame two ∷ owner between ∷ frame three ∷ []) rest
+
 -- Refusals.
 
--- H asks by a block's number, with block transfer agreed
-pub record AsksByNumber (a : Lent) (m : Model) (counter invoke number : ℕ) : Type 0 where
+-- H asks by a block's number, block transfer being agreed or not
+pub record AsksByNumber (blocks : Bool) (a : Lent) (m : Model) (counter invoke number : ℕ) : Type 0 where
   pub isSound : sound m ≡ true
-  pub agreed : blocksIn (Ciphering Han) (m .line) ≡ true
+  pub agreed : blocksIn (Ciphering Han) (m .line) ≡ blocks
   pub small : number < 256 ^ 4
   pub asks : Asking Han a (m .line) Get counter (nextRequest invoke number)
 
@@ -155,34 +207,34 @@ pub record AsksByNumber (a : Lent) (m : Model) (counter invoke number : ℕ) : T
 pub record NumbersRefused : Type 0 where
   pub meanwhile :
       (a : Lent) (m : Model) (counter invoke number : ℕ)
-      → AsksByNumber a m counter invoke number
+      → AsksByNumber true a m counter invoke number
       → m .body .transfer ≡ ended
-      → BlockRead 13 a m counter (refusalBytes 15 invoke number) idle
+      → SealedRead 13 a m counter (refusalBytes 15 invoke number) idle
   pub noneRuns :
       (a : Lent) (m : Model) (counter invoke number : ℕ)
-      → AsksByNumber a m counter invoke number
+      → AsksByNumber true a m counter invoke number
       → m .body .transfer ≡ idle
-      → BlockRead 13 a m counter (refusalBytes 16 invoke number) idle
+      → SealedRead 13 a m counter (refusalBytes 16 invoke number) idle
   pub wrongNumber :
       (a : Lent) (m : Model) (x : Long) (k counter invoke number : ℕ)
-      → AsksByNumber a m counter invoke number
+      → AsksByNumber true a m counter invoke number
       → m .body .transfer ≡ running x k
       → eqb number k ≡ false
-      → BlockRead 13 a m counter (refusalBytes 19 invoke number) idle
+      → SealedRead 13 a m counter (refusalBytes 19 invoke number) idle
 
 -- and each happens: a meter with such a transfer, and a frame that asks by this number
-pub record AskedByNumber (t : Transfer) (number : ℕ) : Type 0 where
+pub record AskedByNumber (blocks : Bool) (t : Transfer) (number : ℕ) : Type 0 where
   pub lent : Lent
   pub meter : Model
   pub counter : ℕ
   pub invoke : ℕ
-  pub asks : AsksByNumber lent meter counter invoke number
+  pub asks : AsksByNumber blocks lent meter counter invoke number
   pub transfer : meter .body .transfer ≡ t
 
 pub record RefusalsHappen : Type 0 where
-  pub meanwhile : AskedByNumber ended 1
-  pub noneRuns : AskedByNumber idle 1
-  pub wrongNumber : AskedByNumber (running (profile whole) 1) 2
+  pub meanwhile : AskedByNumber true ended 1
+  pub noneRuns : AskedByNumber true idle 1
+  pub wrongNumber : AskedByNumber true (running (profile whole) 1) 2
 
 -- Without the bit.
 
@@ -191,10 +243,7 @@ pub record RefusalsHappen : Type 0 where
 pub record MalformedWithoutTheBit : Type 0 where
   pub ofH :
       (a : Lent) (m : Model) (counter invoke number : ℕ)
-      → sound m ≡ true
-      → blocksIn (Ciphering Han) (m .line) ≡ false
-      → number < 256 ^ 4
-      → Asking Han a (m .line) Get counter (nextRequest invoke number)
+      → AsksByNumber false a m counter invoke number
       → outcome a m ≡ replied 12 (apduFrame (headIn a) (0xD8 ∷ 0x02 ∷ 0x02 ∷ [])) (withLine (accepted Han counter (m .line)) m)
   pub ofV :
       (a : Lent) (m : Model) (invoke number : ℕ)
@@ -206,25 +255,29 @@ pub record MalformedWithoutTheBit : Type 0 where
       → outcome a m ≡ replied 12 (apduFrame (headIn a) (0xD8 ∷ 0x02 ∷ 0x02 ∷ [])) m
 
 -- and there is such a meter and frame of H
-pub record WithoutTheBitHappens : Type 0 where
-  pub meter : Model
-  pub lent : Lent
-  pub counter : ℕ
-  pub invoke : ℕ
-  pub number : ℕ
-  pub isSound : sound meter ≡ true
-  pub agreed : blocksIn (Ciphering Han) (meter .line) ≡ false
-  pub small : number < 256 ^ 4
-  pub asks : Asking Han lent (meter .line) Get counter (nextRequest invoke number)
+abbrev pub WithoutTheBitHappens : Type 0
+WithoutTheBitHappens = AskedByNumber false idle 1
 
--- No read is too long.
+-- "Code 250 for length stays only where the bit wasn't agreed."
 
--- the answer "code 250 for length"
+-- the answer with it
 abbrev pub tooLong : (invoke : ℕ) → List ℕ
 tooLong i = 0xC4 ∷ 0x01 ∷ i ∷ 0x01 ∷ 250 ∷ []
 
--- "code 250 for length stays only where the bit wasn't agreed": with it no frame that comes to a GET of H is answered so, on a body whose
--- clock and device name have their lengths; and H finds no such answer, with whatever counter and invoke byte
+-- it stays there: H's read of rows too long for one frame, whatever its selection, is answered so; the call answers 13, and there is no
+-- transfer after it
+abbrev pub LongWithoutTheBit : Type 0
+LongWithoutTheBit =
+    (a : Lent) (m : Model) (s : Selection) (p : Picking) (rs : List Entry) (counter invoke : ℕ)
+    → AsksLong false a m s p rs counter invoke
+    → SealedRead 13 a m counter (tooLong invoke) idle
+
+-- and there are such meters and frames
+abbrev pub LongWithoutTheBitHappens : Type 0
+LongWithoutTheBitHappens = EachAskedLong false
+
+-- and only there: with the bit no frame that comes to a GET of H is answered so, on a body whose clock and device name have their
+-- lengths; and H finds no such answer, with whatever counter and invoke byte
 pub record NoneTooLong : Type 0 where
   pub answered :
       (a : Lent) (m : Model) (q : Request) (w : Wrap) (l : Line) (n i : ℕ) (s : Selection)
@@ -237,14 +290,14 @@ pub record NoneTooLong : Type 0 where
       → turned (ask q) (m .body) .bytes ≡ tooLong i
       → ⊥
   pub found :
-      (a : Lent) (m : Model) (counter number i : ℕ) (text : List ℕ) (q : Asked)
+      (a : Lent) (m : Model) (counter sent i : ℕ) (text : List ℕ) (q : Asked)
       → sound m ≡ true
       → length (m .body .clock .bytes) ≡ 12
       → length (m .body .device) ≡ 16
       → blocksIn (Ciphering Han) (m .line) ≡ true
       → Asking Han a (m .line) Get counter text
       → readService Get text ≡ Asks q
-      → opened (requestKeys Han a (m .line)) (m .line .title) 0xD4 (apduOf (outcome a m .sent)) ≡ opens number (tooLong i)
+      → opened (requestKeys Han a (m .line)) (m .line .title) 0xD4 (apduOf (outcome a m .sent)) ≡ opens sent (tooLong i)
       → ⊥
 
 -- What forgets a transfer.

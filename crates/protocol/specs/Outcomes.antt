@@ -5,7 +5,6 @@
 -- not fit the frame. Proved in proofs/Outcomes and proofs/Framed, by proofs/Leaves.
 use mathlib.Core.Path.{_≡_}
 use mathlib.Core.Bool.{Bool, true, false, cond}
-use mathlib.Core.Logic.{_⊎_}
 use mathlib.Core.List.{List, [], _∷_}
 use Prim.Native.Nat.{ℕ, _-_, _≤_}
 use lib.ListN.{length, take}
@@ -130,7 +129,7 @@ Outside c n l = inWindow (counters c l .accepted) n ≡ false
 -- a request that is malformed: it cannot be read; or it is a numbered one and "without the bit it stays malformed"
 pub data Misshapen (l : Line) (c : Client) : Reading → Type 0 where
   unreadable : Misshapen l c Malformed
-  numbered : {invoke number : ℕ} → blocksIn c l ≡ false → Misshapen l c (GoesOn invoke number)
+  withoutTheBit : {invoke number : ℕ} → blocksIn c l ≡ false → Misshapen l c (GoesOn invoke number)
 
 -- Exceptions: which goes out, and when. Each test stands here with those before it passed.
 
@@ -168,12 +167,12 @@ replied n bs after = record { refusal = n; sent = bs; next = after }
 abbrev pub said : ℕ → List ℕ → Line → Model → Outcome
 said n bs l m = record { refusal = n; sent = bs; next = settled (withLine l m) }
 
--- the answer to a denied request, "result code", and whether it forgets a transfer of the client: a read does, and so does a numbered
--- request; an action does not
-pub data Denial : List ℕ → (forgets : Bool) → Type 0 where
-  read : (invoke code : ℕ) → Denial (getAnswer invoke (denied code)) true
-  action : (invoke code : ℕ) → Denial (actionAnswer invoke (denied code)) false
-  block : (invoke number code : ℕ) → Denial (blockRefused invoke number code) true
+-- the answer to a denied request of H of this service, "result code", and whether it forgets H's transfer: a GET does, a read or a
+-- numbered request; an ACTION does not
+pub data Denial : ServiceKind → List ℕ → (forgets : Bool) → Type 0 where
+  read : (invoke code : ℕ) → Denial Get (getAnswer invoke (denied code)) true
+  block : (invoke number code : ℕ) → Denial Get (blockRefused invoke number code) true
+  action : (invoke code : ℕ) → Denial Action (actionAnswer invoke (denied code)) false
 
 abbrev pub afterDenial : (forgets : Bool) → Body → Body
 afterDenial forgets b = cond forgets (withTransfer idle b) b
@@ -209,8 +208,8 @@ pub data Row (a : Lent) (m : Model) : Outcome → Type 0 where
   -- 12: "exception"
   exception : {bs : List ℕ} {after : Model} → Excepting a m bs after → Row a m (replied 12 bs after)
   -- 13: "result code"; "for H, counters advance; a wrong proof ends the association"
-  denial : {text : List ℕ} {forgets : Bool} → Timely a (m .line) Verification (PlainRequest Get) → Denial text forgets → Row a m (replied 13 (toV a text) m)
-  denialInside : {c : CipherClient} {text asked : List ℕ} {forgets : Bool} {k : ServiceKind} {n : ℕ} → Brings a (m .line) c (DedicatedRequest k) n asked → Accepted c n (m .line) → Denial text forgets
+  denial : (invoke code : ℕ) → Timely a (m .line) Verification (PlainRequest Get) → Row a m (replied 13 (toV a (getAnswer invoke (denied code))) m)
+  denialInside : {c : CipherClient} {text asked : List ℕ} {forgets : Bool} {k : ServiceKind} {n : ℕ} → Brings a (m .line) c (DedicatedRequest k) n asked → Accepted c n (m .line) → Denial k text forgets
       → Row a m (record {
         refusal = 13;
         sent = toH a (m .line) c (dedicatedTag k) text;
@@ -285,19 +284,21 @@ PlainUnchanged =
     → outcome a m .next ≡ m
 
 -- 13: "for H, counters advance; a wrong proof ends the association"; the last accepted is the counter of the envelope that
--- opened, a request's or a proof's; the body is as it was, or its transfer is forgotten
+-- opened, a request's or a proof's
 pub data Advanced (a : Lent) (l : Line) (c : CipherClient) : Line → Type 0 where
   request : {k : ServiceKind} {n : ℕ} {text : List ℕ} → Brings a l c (DedicatedRequest k) n text → Accepted c n l → Advanced a l c (advanced c (accepted c n l))
   proof : {n : ℕ} {text : List ℕ} → Brings a l c GlobalAction n text → Accepted c n l → Advanced a l c (advanced c (accepted c n (associates (Ciphering c) none l)))
 
-abbrev pub DeniedBody : Type 0
-DeniedBody =
-    (a : Lent) (m : Model)
-    → outcome a m .refusal ≡ 13
-    → (outcome a m .next .body ≡ m .body) ⊎ (outcome a m .next .body ≡ withTransfer idle (m .body))
-
 abbrev pub DeniedLine : Type 0
 DeniedLine = (a : Lent) (m : Model) (c : CipherClient) → SentBy (Ciphering c) a → outcome a m .refusal ≡ 13 → Advanced a (m .line) c (outcome a m .next .line)
+
+-- a denied GET of H forgets the transfer; nothing else that is denied moves the body
+pub data DenialLeaves (a : Lent) (b : Body) : Body → Type 0 where
+  forgotten : tagSent a ≡ DedicatedRequest Get → DenialLeaves a b (withTransfer idle b)
+  asItWas : (tagSent a ≡ DedicatedRequest Get → ⊥) → DenialLeaves a b b
+
+abbrev pub DeniedBody : Type 0
+DeniedBody = (a : Lent) (m : Model) → outcome a m .refusal ≡ 13 → DenialLeaves a (m .body) (outcome a m .next .body)
 
 -- What goes out.
 

@@ -43,8 +43,8 @@ returns c =
     let v = selectionIn (a .apdu .now) (a .selector) in
     let comes = at-read-attribute .read-attribute .ensures in
     let w = rw (at-granted .o .given .1) at (comes .writable) in
-    read-granted (requestAs (a .query) (get (a .attribute) v)) (bodyOf (a .body)) (foundAs (a .query .name) (a .found)) _ (a .attribute) v _ (rw (at-granted .o .given .1) at (comes .means)) w refl
-    (then (at-head .put-head .ensures) (at-data .put-data .ensures)) (c .after-read .ensures (granted _) (rw (c .before .no-transfer .ensures)))
+    read-granted (requestAs (a .query) (get (a .attribute) v)) (a .body) (foundAs (a .query .name) (a .found)) _ (a .attribute) v _ (rw (at-granted .o .given .1) at (comes .means)) w refl
+    (then (at-head .put-head .ensures) (at-data .put-data .ensures)) (c .after-read .ensures (granted _) (rw (c .before .no-transfer .ensures)) (a .body))
 
 returns-2 : tie.Need-returns-2
 unfolding transferOf bodyOf
@@ -61,8 +61,8 @@ returns-2 c =
     let w = foundAs (a .query .name) (a .found) in
     let starts = begun-by v q (a .attribute) (bodyOf (a .body)) w (comes .starts) _ means in
     let asked = c .before .before .picking-of .ensures (starts .belongs) (starts .asked) (starts .is) in
-    read-begun q (bodyOf (a .body)) w _ (a .attribute) v (comes .starts) _ means refl (at-block .put-rows-block .ensures .wrote)
-    (c .after-read2 .ensures (begun (comes .starts) _) (rw (c .before .running .ensures, asked) (starts .runs)))
+    read-begun q (a .body) w _ (a .attribute) v (comes .starts) _ means refl (at-block .put-rows-block .ensures .wrote)
+    (c .after-read2 .ensures (begun (comes .starts) _) (rw (c .before .running .ensures, asked) (starts .runs)) (a .body))
 
 returns-3 : tie.Need-returns-3
 unfolding transferOf
@@ -74,8 +74,8 @@ returns-3 c =
     let start = at-read-attribute .before .before .before in
     let a = start .args in
     let v = selectionIn (a .apdu .now) (a .selector) in
-    read-denied (requestAs (a .query) (get (a .attribute) v)) (bodyOf (a .body)) (foundAs (a .query .name) (a .found)) _ (a .attribute) v _ (rw (at-denied .o3 .given .1) at (at-read-attribute .read-attribute .ensures .means)) refl
-    (then (at-head .put-head2 .ensures) (at-code .put .ensures)) (c .after-read3 .ensures (denied _) (rw (c .before .no-transfer2 .ensures)))
+    read-denied (requestAs (a .query) (get (a .attribute) v)) (a .body) (foundAs (a .query .name) (a .found)) _ (a .attribute) v _ (rw (at-denied .o3 .given .1) at (at-read-attribute .read-attribute .ensures .means)) refl
+    (then (at-head .put-head2 .ensures) (at-code .put .ensures)) (c .after-read3 .ensures (denied _) (rw (c .before .no-transfer2 .ensures)) (a .body))
 
 pub answer-get-spec : {M : Type 1} → statement M
 answer-get-spec =

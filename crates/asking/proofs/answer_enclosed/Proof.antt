@@ -39,8 +39,8 @@ returns c lent e =
     let at-send-enclosed = c .before .before .before in
     let at-answer-tag = at-send-enclosed .before .before in
     let at-answer = at-answer-tag .before .before .before .before .before in
-    let at-takes-blocks = at-answer .before .before in
-    let at-is-selective = at-takes-blocks .before in
+    let at-are-blocks-agreed = at-answer .before .before in
+    let at-is-selective = at-are-blocks-agreed .before in
     let at-with-counters = at-is-selective .before in
     let at-take = at-with-counters .before in
     let at-accept = at-take .before in
@@ -59,7 +59,7 @@ returns c lent e =
     let keys = e ∙ ap (λ (x : Association). keysFrom (keyIn x) (lent .ak)) (sym (counted-held k (taken pair .counters) l)) in
     let title = sym (counted-title k (taken pair .counters) l) in
     let sent = ap (λ (n : Taken). n .number) number ∙ ap (λ (n : Counters). n .sent) (sym (counted-counters k (taken pair .counters) l)) in
-    rw (sym (at-is-selective .is-selective .ensures), sym (at-takes-blocks .takes-blocks .ensures), advanced-is k (a .counter) l)
+    rw (sym (at-is-selective .is-selective .ensures), sym (at-are-blocks-agreed .are-blocks-agreed .ensures), advanced-is k (a .counter) l)
     (serves _ _ (a .meter) _ _ next (t .refusal) (t .body)
     (enclosed-sent _ _ 20 t k (lent .ak) _ (a .head) (dedicatedTag (a .kind)) _ _ after (omega arith) keys title sent (rw (at-answer-tag .answer-tag .ensures) at (at-send-enclosed .send-enclosed .ensures)))
     (counted-same k (taken pair .counters) l))

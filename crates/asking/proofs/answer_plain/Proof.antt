@@ -26,12 +26,12 @@ returns : tie.Need-returns
 returns c =
     let at-send-plain = c .before .before .before in
     let at-answer = at-send-plain .before .before .before .before .before in
-    let at-takes-blocks = at-answer .before .before in
-    let at-is-selective = at-takes-blocks .before in
+    let at-are-blocks-agreed = at-answer .before .before in
+    let at-is-selective = at-are-blocks-agreed .before in
     let start = at-is-selective .before .before .before .before .before in
     λ ak. let t = at-answer .answer .ensures in
     let a = start .args in
-    rw (sym (at-is-selective .is-selective .ensures), sym (at-takes-blocks .takes-blocks .ensures))
+    rw (sym (at-is-selective .is-selective .ensures), sym (at-are-blocks-agreed .are-blocks-agreed .ensures))
     (serves _ _ (a .meter) (a .meter .line) _ refl (t .refusal) (t .body) (plain-sent _ _ 11 t ak (a .head) (lineOf (a .meter .line)) (omega arith) (at-send-plain .send-plain .ensures)) (λ d. refl))
 
 pub answer-plain-spec : {M : Type 1} → statement M

@@ -10,7 +10,7 @@ returns c =
     let at-except = c .before .before .before in
     let at-enum-told = at-except .before .before in
     let s = at-enum-told .before .before .before .before .before in
-    rw (c .joined .ensures, at-enum-told .enum-told .given .1) (at-except .except .ensures (s .args .meter .line) tagNotPermitted refl (λ d. refl) (s .args .meter .body))
+    rw (c .alone .ensures, at-enum-told .enum-told .given .1) (at-except .except .ensures (s .args .meter .line) tagNotPermitted refl (λ d. refl) (s .args .meter .body))
 
 returns-2 : tie.Need-returns-2
 returns-2 c =

@@ -27,7 +27,7 @@ returns c =
     let at-dedicated-keys = at-title-of .before in
     let at-counters-of = at-dedicated-keys .before in
     let s = at-counters-of .before .before .before .before .before in
-    rw (c .joined .ensures, at-kept .kept .ensures)
+    rw (c .alone .ensures, at-kept .kept .ensures)
     (follows
     (admits-unopened (dedicatedTag (s .args .kind)) (s .args .apdu .now) (at-dedicated-keys .dedicated-keys .ensures) (at-title-of .title-of .ensures) (s .args .client) (lineOf (s .args .meter .line)) (at-counters-of .counters-of .ensures) _ (rw (at-dedicated-tag .dedicated-tag .ensures) at (at-admit-envelope .admit-envelope .ensures)) (at-enum-told .enum-told .given .1))
     (says-kept envelopeUnopened nothing (s .args .meter) refl (nothing-sent _)))
@@ -43,7 +43,7 @@ returns-2 c =
     let at-dedicated-keys = at-title-of .before in
     let at-counters-of = at-dedicated-keys .before in
     let s = at-counters-of .before .before .before .before .before in
-    rw (c .joined2 .ensures)
+    rw (c .alone2 .ensures)
     (follows
     (admits-outside (dedicatedTag (s .args .kind)) (s .args .apdu .now) (at-dedicated-keys .dedicated-keys .ensures) (at-title-of .title-of .ensures) (s .args .client) (lineOf (s .args .meter .line)) (at-counters-of .counters-of .ensures) _ (rw (at-dedicated-tag .dedicated-tag .ensures) at (at-admit-envelope .admit-envelope .ensures)) (at-enum-told2 .enum-told2 .given .1))
     (at-drop-association .drop-association .ensures _ (s .args .meter .body)))

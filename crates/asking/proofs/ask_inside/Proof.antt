@@ -9,11 +9,11 @@ returns : tie.Need-returns
 returns c a e =
     let at-misread = c .before .before .before in
     let at-if = at-misread .before .before in
-    let at-takes-blocks = at-if .before in
-    let at-reading = at-takes-blocks .before .before in
+    let at-are-blocks-agreed = at-if .before in
+    let at-reading = at-are-blocks-agreed .before .before in
     let at-read-service = at-reading .before .before in
     let s = at-read-service .before .before .before .before in
-    rw (c .joined .ensures, sym (at-read-service .read-service .ensures) ∙ at-reading .reading2 .given .1, sym (at-takes-blocks .takes-blocks .ensures) ∙ not-true _ (at-if .if1 .taken))
+    rw (c .alone .ensures, sym (at-read-service .read-service .ensures) ∙ at-reading .reading2 .given .1, sym (at-are-blocks-agreed .are-blocks-agreed .ensures) ∙ not-true _ (at-if .if1 .taken))
     (at-misread .misread .ensures (s .args .meter .body))
 
 returns-2 : tie.Need-returns-2
@@ -27,10 +27,10 @@ returns-3 : tie.Need-returns-3
 returns-3 c a e =
     let at-answer-enclosed = c .before .before in
     let at-if = at-answer-enclosed .before .before in
-    let at-takes-blocks = at-if .before in
-    let at-reading = at-takes-blocks .before .before in
+    let at-are-blocks-agreed = at-if .before in
+    let at-reading = at-are-blocks-agreed .before .before in
     let at-read-service = at-reading .before .before in
-    rw (sym (at-read-service .read-service .ensures) ∙ at-reading .reading2 .given .1, sym (at-takes-blocks .takes-blocks .ensures) ∙ not-false _ (at-if .if1 .left))
+    rw (sym (at-read-service .read-service .ensures) ∙ at-reading .reading2 .given .1, sym (at-are-blocks-agreed .are-blocks-agreed .ensures) ∙ not-false _ (at-if .if1 .left))
     (at-answer-enclosed .answer-enclosed2 .ensures a e)
 
 returns-4 : tie.Need-returns-4
@@ -39,7 +39,7 @@ returns-4 c a e =
     let at-enum-told = at-misread .before .before in
     let at-read-service = at-enum-told .before .before in
     let s = at-read-service .before .before .before .before in
-    rw (c .joined2 .ensures, sym (at-read-service .read-service .ensures) ∙ at-enum-told .enum-told .given .1) (at-misread .misread2 .ensures (s .args .meter .body))
+    rw (c .alone2 .ensures, sym (at-read-service .read-service .ensures) ∙ at-enum-told .enum-told .given .1) (at-misread .misread2 .ensures (s .args .meter .body))
 
 pub ask-inside-spec : {M : Type 1} → statement M
 ask-inside-spec =

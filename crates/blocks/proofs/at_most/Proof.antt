@@ -1,5 +1,4 @@
 -- `blocks::at_most` meets its contract.
-use borrow.Author.Needs.{needs}
 use borrow.Author.Tests.{le-leb, lt-leb}
 use Rattle.blocks.proofs.at_most.Statement.{statement}
 use Rattle.blocks.proofs.at_most.Tie as tie

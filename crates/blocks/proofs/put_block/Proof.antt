@@ -1,14 +1,11 @@
 -- `blocks::put_block` meets its contract.
-use mathlib.Core.Path.{sym}
 use native.Mathlib.Omega.{arith}
-use lib.ListN.{length}
-use Rattle.wire.specs.Numbers.{lengthField}
 use Rattle.wire.proofs.NumberLaws.{length-high}
 use Rattle.wire.proofs.LengthLaws.{field-size}
 use Rattle.wire_write.proofs.WroteLaws.{then}
 use Rattle.model.specs.Objects.{blockAnswer}
 use Rattle.model.proofs.LimitFacts.{text-room}
-use Rattle.blocks.proofs.StretchLaws.{size, begins-here, last-here, size-fits, stretch, stretch-size}
+use Rattle.blocks.proofs.StretchLaws.{begins-here, last-here, size-fits, stretch, stretch-size}
 use borrow.Author.Needs.{needs}
 use Rattle.blocks.proofs.put_block.Statement.{statement}
 use Rattle.blocks.proofs.put_block.Tie as tie

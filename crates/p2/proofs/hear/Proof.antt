@@ -39,7 +39,7 @@ returns c =
     let at-read = at-number-of .before .before in
     let at-read-frame = at-read .before .before in
     let s = at-read-frame .before .before .before .before in
-    rw (c .joined .ensures, at-kept .kept .ensures, sym (at-read-frame .read-frame .ensures) ∙ at-read .read .given .1)
+    rw (c .alone .ensures, at-kept .kept .ensures, sym (at-read-frame .read-frame .ensures) ∙ at-read .read .given .1)
     (says-kept (frame _) nothing (s .args .meter) (at-number-of .number-of .ensures) (nothing-sent _))
 
 returns-2 : tie.Need-returns-2
@@ -48,7 +48,7 @@ returns-2 c =
     let at-read2 = at-reject .before .before .before in
     let at-read-frame = at-read2 .before .before in
     let s = at-read-frame .before .before .before .before in
-    rw (c .joined2 .ensures, sym (at-read-frame .read-frame .ensures) ∙ at-read2 .read2 .given .1) (at-reject .reject .ensures (s .args .meter .body))
+    rw (c .alone2 .ensures, sym (at-read-frame .read-frame .ensures) ∙ at-read2 .read2 .given .1) (at-reject .reject .ensures (s .args .meter .body))
 
 returns-3 : tie.Need-returns-3
 returns-3 c =
@@ -56,7 +56,7 @@ returns-3 c =
     let at-read3 = at-link-up .before .before .before in
     let at-read-frame = at-read3 .before .before in
     let s = at-read-frame .before .before .before .before in
-    rw (c .joined3 .ensures, sym (at-read-frame .read-frame .ensures) ∙ at-read3 .read3 .given .1) (at-link-up .link-up .ensures (s .args .meter .body))
+    rw (c .alone3 .ensures, sym (at-read-frame .read-frame .ensures) ∙ at-read3 .read3 .given .1) (at-link-up .link-up .ensures (s .args .meter .body))
 
 returns-4 : tie.Need-returns-4
 returns-4 c =
@@ -64,7 +64,7 @@ returns-4 c =
     let at-read4 = at-link-down .before .before .before in
     let at-read-frame = at-read4 .before .before in
     let s = at-read-frame .before .before .before .before in
-    rw (c .joined4 .ensures, sym (at-read-frame .read-frame .ensures) ∙ at-read4 .read4 .given .1) (at-link-down .link-down .ensures (s .args .meter .body))
+    rw (c .alone4 .ensures, sym (at-read-frame .read-frame .ensures) ∙ at-read4 .read4 .given .1) (at-link-down .link-down .ensures (s .args .meter .body))
 
 returns-5 : tie.Need-returns-5
 returns-5 c =

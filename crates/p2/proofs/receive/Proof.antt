@@ -44,9 +44,9 @@ returns-3 c =
     let at-lent = at-if1 .before in
     let a = at-lent .before .before .before .before .before .before .args in
     let right = lent-lengths _ _ _ _ _ (sym (at-lent .lent-refusal .ensures) ∙ at-if1 .if1 .left) in
-    ruled-answered _ (a .meter) (lent-told _ _ _ _ _ (at-lent .lent-refusal .ensures) ∙ at-if1 .if1 .left) (sym (at-is-sound .is-sound .ensures) ∙ not-false _ (at-if2 .if2 .left))
-    (rw (at-secrets .secrets-of .ensures, filled-whole (a .guk .now) (replicate 16 0) (right .guk), filled-whole (a .ak .now) (replicate 16 0) (right .ak), filled-whole (a .challenge .now) (replicate 8 0) (right .challenge)) at (at-hear .hear .ensures))
-    (c .settle .ensures)
+    rw (c .settle .ensures)
+    (ruled-answered _ (a .meter) (lent-told _ _ _ _ _ (at-lent .lent-refusal .ensures) ∙ at-if1 .if1 .left) (at-hear .hear .result) (sym (at-is-sound .is-sound .ensures) ∙ not-false _ (at-if2 .if2 .left))
+    (rw (at-secrets .secrets-of .ensures, filled-whole (a .guk .now) (replicate 16 0) (right .guk), filled-whole (a .ak .now) (replicate 16 0) (right .ak), filled-whole (a .challenge .now) (replicate 8 0) (right .challenge)) at (at-hear .hear .ensures)))
 
 pub receive-spec : {M : Type 1} → statement M
 receive-spec = tie.close (tie.spec (λ c κs. search needs) (λ c κs. search needs) returns (λ c κs. search needs) (λ c κs. search needs) returns-2 (λ c κs. search needs) hear-requires (λ c κs. search needs) (λ c. search needs) returns-3)

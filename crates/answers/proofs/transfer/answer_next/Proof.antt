@@ -1,8 +1,9 @@
 -- `answers::transfer::answer_next` meets its contract.
-use mathlib.Core.Path.{_≡_, sym, _∙_}
+use mathlib.Core.Path.{refl}
 use Rattle.model.specs.Objects.{turned}
 use Rattle.picks.specs.Transfers.{transferOf}
 use Rattle.body.specs.View.{bodyOf}
+use Rattle.answers.proofs.AnswerLaws.{turns-by}
 use borrow.Author.Needs.{needs}
 use Rattle.answers.proofs.transfer.answer_next.Statement.{statement}
 use Rattle.answers.proofs.transfer.answer_next.Tie as tie
@@ -15,15 +16,15 @@ go-on-requires c κs =
 
 returns : tie.Need-returns
 unfolding turned bodyOf transferOf
-returns c = rw (c .before .before .before .before .enum-told .given .1) (c .before .before .refuse .ensures)
+returns c = rw (c .before .before .before .before .enum-told .given .1) (c .before .before .refuse .ensures _)
 
 returns-2 : tie.Need-returns-2
 unfolding turned bodyOf transferOf
-returns-2 c = rw (c .before .before .before .before .enum-told2 .given .1) (c .before .before .refuse2 .ensures)
+returns-2 c = rw (c .before .before .before .before .enum-told2 .given .1) (c .before .before .refuse2 .ensures _)
 
 returns-3 : tie.Need-returns-3
 unfolding turned bodyOf transferOf
-returns-3 c = rw (c .before .before .before .before .before .enum-told3 .given .1) (c .before .before .go-on .ensures)
+returns-3 c = turns-by (rw (c .before .before .before .before .before .enum-told3 .given .1) refl) (c .before .before .go-on .ensures)
 
 pub answer-next-spec : {M : Type 1} → statement M
 answer-next-spec =

@@ -1,10 +1,9 @@
 -- `answers::transfer::go_on` meets its contract.
 use mathlib.Core.Path.{_≡_, refl, ap, _∙_}
-use mathlib.Core.Bool.{Bool, cond}
 use Prim.Native.Nat.{_+_, _-_}
 use native.Mathlib.Omega.{arith}
 use borrow.Author.Tests.{eq-eqb, ne-eqb}
-use Rattle.model.specs.State.{profile, Transfer, idle, running, withTransfer}
+use Rattle.model.specs.State.{profile}
 use Rattle.model.specs.Objects.{rowsData, isLast}
 use Rattle.model.proofs.BlockLaws.{answer-fits}
 use Rattle.store.specs.Lists.{entriesOf}
@@ -22,7 +21,7 @@ use Rattle.answers.proofs.transfer.go_on.Tie as tie
 returns : tie.Need-returns
 returns c =
     let at-refuse = c .before .before in
-    rw (ne-eqb _ _ (at-refuse .before .before .if1 .taken)) (at-refuse .refuse .ensures)
+    rw (ne-eqb _ _ (at-refuse .before .before .if1 .taken)) (at-refuse .refuse .ensures _)
 
 rows-of-requires : tie.Need-rows-of-requires
 rows-of-requires c κs = let start = c .before .before .before in sound-fits (start .args .body) (start .pre .0) .rows
@@ -72,7 +71,7 @@ returns-2 c =
       refusal = refl;
       wrote = rw long at (b .wrote);
       short = omega (arith, b .wrote .next, answer-fits (a .invoke) (a .k + 1) d);
-      body = c .with-transfer .ensures ∙ ap (λ (t : Transfer). withTransfer t (bodyOf (a .body))) (c .before .after-block .ensures ∙ ap (λ (l : Bool). cond l idle (running x (a .k + 1))) last);
+      body = rw (c .leaves .ensures, c .before .after-block .ensures, last) refl;
     })
 
 pub go-on-spec : {M : Type 1} → statement M

@@ -14,25 +14,25 @@ find-in-request-requires c κs =
 
 returns : tie.Need-returns
 returns c =
-    let at-takes-blocks = c .before .before in
-    let at-reading = at-takes-blocks .before .before in
+    let at-are-blocks-agreed = c .before .before in
+    let at-reading = at-are-blocks-agreed .before .before in
     let at-read-service = at-reading .before .before in
-    rw (sym (at-read-service .read-service .ensures) ∙ at-reading .reading2 .given .1, sym (at-takes-blocks .takes-blocks2 .ensures) ∙ not-true _ (c .before .if1 .taken)) (c .of-line .ensures)
+    rw (sym (at-read-service .read-service .ensures) ∙ at-reading .reading2 .given .1, sym (at-are-blocks-agreed .are-blocks-agreed2 .ensures) ∙ not-true _ (c .before .if1 .taken)) (c .of-line .ensures)
 
 returns-2 : tie.Need-returns-2
 returns-2 c =
     let at-reading = c .before .before .before .before in
     let at-read-service = at-reading .before .before in
-    rw (sym (at-read-service .read-service .ensures) ∙ at-reading .reading .given .1, sym (c .before .before .is-selective .ensures), sym (c .before .takes-blocks .ensures)) (c .find-in-request .ensures)
+    rw (sym (at-read-service .read-service .ensures) ∙ at-reading .reading .given .1, sym (c .before .before .is-selective .ensures), sym (c .before .are-blocks-agreed .ensures)) (c .find-in-request .ensures)
 
 returns-3 : tie.Need-returns-3
 unfolding bodyOf
 returns-3 c =
     let at-if1 = c .before .before in
-    let at-takes-blocks = at-if1 .before in
-    let at-reading = at-takes-blocks .before .before in
+    let at-are-blocks-agreed = at-if1 .before in
+    let at-reading = at-are-blocks-agreed .before .before in
     let at-read-service = at-reading .before .before in
-    rw (sym (at-read-service .read-service .ensures) ∙ at-reading .reading2 .given .1, sym (at-takes-blocks .takes-blocks2 .ensures) ∙ not-false _ (at-if1 .if1 .left)) (c .find-in-number .ensures)
+    rw (sym (at-read-service .read-service .ensures) ∙ at-reading .reading2 .given .1, sym (at-are-blocks-agreed .are-blocks-agreed2 .ensures) ∙ not-false _ (at-if1 .if1 .left)) (c .find-in-number .ensures)
 
 returns-4 : tie.Need-returns-4
 returns-4 c =

@@ -12,8 +12,8 @@ returns : tie.Need-returns
 unfolding transferFinds bodyOf
 returns c = rw (sym (c .before .before .is-allowed .ensures) ∙ not-true _ (c .before .if1 .taken)) (c .of-state .ensures)
 
-goes-on-requires : tie.Need-goes-on-requires
-goes-on-requires c κs =
+rows-allow-requires : tie.Need-rows-allow-requires
+rows-allow-requires c κs =
     let start = c .before .before .before .before .before in
     body-even (start .args .body) (start .pre)
 
@@ -22,14 +22,14 @@ unfolding transferFinds bodyOf
 returns-2 c =
     let at-if1 = c .before .before .before .before .before in
     let start = at-if1 .before .before .before in
-    rw (sym (at-if1 .before .is-allowed .ensures) ∙ not-false _ (at-if1 .if1 .left), sym (c .before .before .goes-on .ensures (bodyOf (start .args .body) .store) refl) ∙ not-true _ (c .before .if2 .taken)) (c .of-state2 .ensures)
+    rw (sym (at-if1 .before .is-allowed .ensures) ∙ not-false _ (at-if1 .if1 .left), sym (c .before .before .rows-allow .ensures (bodyOf (start .args .body) .store) refl) ∙ not-true _ (c .before .if2 .taken)) (c .of-state2 .ensures)
 
 returns-3 : tie.Need-returns-3
 unfolding transferFinds bodyOf
 returns-3 c =
     let at-if1 = c .before .before .before .before in
     let start = at-if1 .before .before .before in
-    rw (sym (at-if1 .before .is-allowed .ensures) ∙ not-false _ (at-if1 .if1 .left), sym (c .before .goes-on .ensures (bodyOf (start .args .body) .store) refl) ∙ not-false _ (c .if2 .left)) refl
+    rw (sym (at-if1 .before .is-allowed .ensures) ∙ not-false _ (at-if1 .if1 .left), sym (c .before .rows-allow .ensures (bodyOf (start .args .body) .store) refl) ∙ not-false _ (c .if2 .left)) refl
 
 pub find-in-transfer-spec : {M : Type 1} → statement M
 find-in-transfer-spec =
@@ -38,7 +38,7 @@ find-in-transfer-spec =
     (λ c κs. search needs)
     (λ c κs. search needs)
     returns
-    goes-on-requires
+    rows-allow-requires
     (λ c κs. search needs)
     returns-2
     returns-3)

@@ -3,6 +3,8 @@ use mathlib.Core.Path.{sym, _∙_}
 use borrow.Author.Tests.{not-true, not-false}
 use Rattle.meter.proofs.MeterLaws.{unsound, refuses, accepts, registers-refused, registers-given}
 use Rattle.store.specs.Lists.{registersOf}
+use Rattle.picks.proofs.ClearLaws.{broken-as}
+use Rattle.body.proofs.BodyLaws.{none-held}
 use borrow.Author.Needs.{needs}
 use Rattle.meter.proofs.Meter.give_registers.Statement.{statement}
 use Rattle.meter.proofs.Meter.give_registers.Tie as tie
@@ -24,7 +26,7 @@ returns-3 c =
     let at-if2 = at-no-rows .before .before .before in
     let at-if1 = at-if2 .before .before in
     let start = at-if1 .before .before in
-    rw (c .done .ensures) (accepts _ (start .args .self) _ (sym (at-if1 .before .is-sound .ensures) ∙ not-false _ (at-if1 .if1 .left)) (λ p. registers-given p (start .args .self) (record { count = start .args .count; items = start .args .registers }) _ _ _ (sym (at-if2 .before .registers-accepted .ensures) ∙ not-false _ (at-if2 .if2 .left)) (at-no-rows .before .no-columns .ensures) (at-no-rows .no-rows .ensures) (c .before .broken .ensures)))
+    rw (c .done .ensures) (accepts _ (start .args .self) _ (sym (at-if1 .before .is-sound .ensures) ∙ not-false _ (at-if1 .if1 .left)) (λ p. registers-given p (start .args .self) (record { count = start .args .count; items = start .args .registers }) _ _ _ (sym (at-if2 .before .registers-accepted .ensures) ∙ not-false _ (at-if2 .if2 .left)) (at-no-rows .before .no-columns .ensures) (none-held (at-no-rows .no-rows .ensures)) (broken-as _ (c .before .broken .ensures))))
 
 pub give-registers-spec : {M : Type 1} → statement M
 give-registers-spec = tie.close (tie.spec (λ c κs. search needs) (λ c κs. search needs) returns (λ c κs. search needs) (λ c κs. search needs) returns-2 (λ c κs. search needs) (λ c κs. search needs) (λ c κs. search needs) (λ c κs. search needs) returns-3)

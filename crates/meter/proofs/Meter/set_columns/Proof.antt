@@ -3,6 +3,8 @@ use mathlib.Core.Path.{sym, _∙_}
 use borrow.Author.Tests.{not-true, not-false}
 use Rattle.meter.proofs.MeterLaws.{fits, unsound, refuses, accepts, columns-refused, columns-set}
 use Rattle.store.specs.Lists.{columnsOf}
+use Rattle.picks.proofs.ClearLaws.{broken-as}
+use Rattle.body.proofs.BodyLaws.{none-held}
 use borrow.Author.Needs.{needs}
 use Rattle.meter.proofs.Meter.set_columns.Statement.{statement}
 use Rattle.meter.proofs.Meter.set_columns.Tie as tie
@@ -27,7 +29,7 @@ returns-3 c =
     let at-if2 = at-no-rows .before in
     let at-if1 = at-if2 .before .before .before .before in
     let start = at-if1 .before .before in
-    rw (c .done .ensures) (accepts _ (start .args .self) _ (sym (at-if1 .before .is-sound .ensures) ∙ not-false _ (at-if1 .if1 .left)) (λ p. columns-set p (start .args .self) (record { count = start .args .count; items = start .args .columns }) _ _ (sym (at-if2 .before .columns-accepted .ensures) ∙ not-false _ (at-if2 .if2 .left)) (at-no-rows .no-rows .ensures) (c .before .broken .ensures)))
+    rw (c .done .ensures) (accepts _ (start .args .self) _ (sym (at-if1 .before .is-sound .ensures) ∙ not-false _ (at-if1 .if1 .left)) (λ p. columns-set p (start .args .self) (record { count = start .args .count; items = start .args .columns }) _ _ (sym (at-if2 .before .columns-accepted .ensures) ∙ not-false _ (at-if2 .if2 .left)) (none-held (at-no-rows .no-rows .ensures)) (broken-as _ (c .before .broken .ensures))))
 
 pub set-columns-spec : {M : Type 1} → statement M
 set-columns-spec = tie.close (tie.spec (λ c κs. search needs) (λ c κs. search needs) returns columns-accepted-requires (λ c κs. search needs) returns-2 (λ c κs. search needs) (λ c κs. search needs) (λ c κs. search needs) returns-3)

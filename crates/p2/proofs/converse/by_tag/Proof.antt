@@ -10,14 +10,14 @@ returns c =
     let at-associate = c .before .before .before in
     let at-enum-told = at-associate .before .before in
     let s = at-enum-told .before .before .before .before .before in
-    rw (c .joined .ensures, at-enum-told .enum-told .given .1) (at-associate .associate .ensures (s .args .meter .body))
+    rw (c .alone .ensures, at-enum-told .enum-told .given .1) (at-associate .associate .ensures (s .args .meter .body))
 
 returns-2 : tie.Need-returns-2
 returns-2 c =
     let at-release = c .before .before .before in
     let at-enum-told2 = at-release .before .before in
     let s = at-enum-told2 .before .before .before .before .before in
-    rw (c .joined2 .ensures, at-enum-told2 .enum-told2 .given .1) (at-release .release .ensures (s .args .meter .body))
+    rw (c .alone2 .ensures, at-enum-told2 .enum-told2 .given .1) (at-release .release .ensures (s .args .meter .body))
 
 returns-3 : tie.Need-returns-3
 returns-3 c =
@@ -31,7 +31,7 @@ returns-4 c =
     let at-hear-ciphered = c .before .before .before in
     let at-enum-told3 = at-hear-ciphered .before .before in
     let s = at-enum-told3 .before .before .before .before .before in
-    rw (c .joined3 .ensures, at-enum-told3 .enum-told3 .given .1) (at-hear-ciphered .hear-ciphered .ensures (s .args .meter .body))
+    rw (c .alone3 .ensures, at-enum-told3 .enum-told3 .given .1) (at-hear-ciphered .hear-ciphered .ensures (s .args .meter .body))
 
 returns-5 : tie.Need-returns-5
 returns-5 c =
@@ -44,7 +44,7 @@ returns-6 c =
     let at-except = c .before .before .before in
     let at-enum-told4 = at-except .before .before in
     let s = at-enum-told4 .before .before .before .before .before in
-    rw (c .joined4 .ensures, at-enum-told4 .enum-told4 .given .1) (at-except .except .ensures (s .args .meter .line) unknownTag refl (λ d. refl) (s .args .meter .body))
+    rw (c .alone4 .ensures, at-enum-told4 .enum-told4 .given .1) (at-except .except .ensures (s .args .meter .line) unknownTag refl (λ d. refl) (s .args .meter .body))
 
 pub by-tag-spec : {M : Type 1} → statement M
 by-tag-spec =

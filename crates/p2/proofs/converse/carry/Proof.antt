@@ -14,7 +14,7 @@ returns c =
     let at-if1 = at-refuse .before .before in
     let at-is-up = at-if1 .before in
     let s = at-is-up .before .before .before .before in
-    rw (c .joined .ensures, sym (at-is-up .is-up .ensures) ∙ not-true _ (at-if1 .if1 .taken)) (at-refuse .refuse .ensures dataWhileDown refl (s .args .meter .body))
+    rw (c .alone .ensures, sym (at-is-up .is-up .ensures) ∙ not-true _ (at-if1 .if1 .taken)) (at-refuse .refuse .ensures dataWhileDown refl (s .args .meter .body))
 
 returns-2 : tie.Need-returns-2
 unfolding carried

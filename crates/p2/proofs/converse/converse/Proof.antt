@@ -15,7 +15,7 @@ returns c =
     let at-is-unknown = at-if1 .before in
     let at-tag-in = at-is-unknown .before in
     let s = at-tag-in .before .before .before .before in
-    rw (c .joined .ensures, sym (at-tag-in .tag-in .ensures), sym (at-is-unknown .is-unknown .ensures) ∙ at-if1 .if1 .taken)
+    rw (c .alone .ensures, sym (at-tag-in .tag-in .ensures), sym (at-is-unknown .is-unknown .ensures) ∙ at-if1 .if1 .taken)
     (at-except .except .ensures (s .args .meter .line) unknownTag refl (λ d. refl) (s .args .meter .body))
 
 returns-2 : tie.Need-returns-2
@@ -28,7 +28,7 @@ returns-2 c =
     let at-is-unknown = at-if1 .before in
     let at-tag-in = at-is-unknown .before in
     let s = at-tag-in .before .before .before .before in
-    rw (c .joined2 .ensures, sym (at-tag-in .tag-in .ensures), sym (at-is-unknown .is-unknown .ensures) ∙ at-if1 .if1 .left, sym (at-is-permitted .is-permitted .ensures) ∙ not-true _ (at-if2 .if2 .taken))
+    rw (c .alone2 .ensures, sym (at-tag-in .tag-in .ensures), sym (at-is-unknown .is-unknown .ensures) ∙ at-if1 .if1 .left, sym (at-is-permitted .is-permitted .ensures) ∙ not-true _ (at-if2 .if2 .taken))
     (at-except2 .except2 .ensures (s .args .meter .line) tagNotPermitted refl (λ d. refl) (s .args .meter .body))
 
 returns-3 : tie.Need-returns-3
@@ -43,7 +43,7 @@ returns-3 c =
     let at-is-unknown = at-if1 .before in
     let at-tag-in = at-is-unknown .before in
     let s = at-tag-in .before .before .before .before in
-    rw (c .joined3 .ensures, sym (at-tag-in .tag-in .ensures), sym (at-is-unknown .is-unknown .ensures) ∙ at-if1 .if1 .left, sym (at-is-permitted .is-permitted .ensures) ∙ not-false _ (at-if2 .if2 .left), sym (at-is-bit-agreed .is-bit-agreed .ensures) ∙ not-true _ (at-if3 .if3 .taken))
+    rw (c .alone3 .ensures, sym (at-tag-in .tag-in .ensures), sym (at-is-unknown .is-unknown .ensures) ∙ at-if1 .if1 .left, sym (at-is-permitted .is-permitted .ensures) ∙ not-false _ (at-if2 .if2 .left), sym (at-is-bit-agreed .is-bit-agreed .ensures) ∙ not-true _ (at-if3 .if3 .taken))
     (at-except3 .except3 .ensures (s .args .meter .line) bitNotAgreed refl (λ d. refl) (s .args .meter .body))
 
 returns-4 : tie.Need-returns-4

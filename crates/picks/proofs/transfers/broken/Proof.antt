@@ -1,19 +1,19 @@
 -- `picks::transfers::broken` meets its contract.
-use Rattle.picks.specs.Transfers.{transferOf}
+use Rattle.picks.specs.Canonical.{brokenTransfer}
 use borrow.Author.Needs.{needs}
 use Rattle.picks.proofs.transfers.broken.Statement.{statement}
 use Rattle.picks.proofs.transfers.broken.Tie as tie
 
 returns : tie.Need-returns
-unfolding transferOf
+unfolding brokenTransfer
 returns c = rw (c .enum-told .given .1)
 
 returns-2 : tie.Need-returns-2
-unfolding transferOf
+unfolding brokenTransfer
 returns-2 c = rw (c .before .enum-told2 .given .1, c .ended-transfer .ensures)
 
 returns-3 : tie.Need-returns-3
-unfolding transferOf
+unfolding brokenTransfer
 returns-3 c = rw (c .enum-told3 .given .1)
 
 pub broken-spec : {M : Type 1} → statement M

@@ -1,7 +1,7 @@
 -- `picks::transfers::runs_on` meets its contract: by the rows that were picked.
 use mathlib.Core.Path.{_∙_, ap}
 use Prim.Native.Nat.{ℕ}
-use Rattle.picks.specs.Transfers.{moreComes}
+use Rattle.model.specs.Soundness.{moreComes}
 use Rattle.picks.proofs.TransferLaws.{rows-go, none-goes}
 use borrow.Author.Needs.{needs}
 use Rattle.picks.proofs.transfers.runs_on.Statement.{statement}

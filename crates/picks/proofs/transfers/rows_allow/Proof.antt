@@ -1,12 +1,12 @@
--- `picks::transfers::goes_on` meets its contract: by how far it has come.
-use Rattle.model.specs.Soundness.{goesOn}
+-- `picks::transfers::rows_allow` meets its contract: by how far it has come.
+use Rattle.model.specs.Soundness.{rowsAllow}
 use Rattle.picks.specs.Transfers.{transferOf}
 use borrow.Author.Needs.{needs}
-use Rattle.picks.proofs.transfers.goes_on.Statement.{statement}
-use Rattle.picks.proofs.transfers.goes_on.Tie as tie
+use Rattle.picks.proofs.transfers.rows_allow.Statement.{statement}
+use Rattle.picks.proofs.transfers.rows_allow.Tie as tie
 
 returns : tie.Need-returns
-unfolding transferOf goesOn
+unfolding transferOf rowsAllow
 returns c = λ s e. rw (c .enum-told .given .1)
 
 returns-2 : tie.Need-returns-2
@@ -14,10 +14,10 @@ unfolding transferOf
 returns-2 c = λ s e. rw (c .before .before .enum-told2 .given .1) (c .runs-on .ensures s e)
 
 returns-3 : tie.Need-returns-3
-unfolding transferOf goesOn
+unfolding transferOf rowsAllow
 returns-3 c = λ s e. rw (c .enum-told3 .given .1)
 
-pub goes-on-spec : {M : Type 1} → statement M
-goes-on-spec =
+pub rows-allow-spec : {M : Type 1} → statement M
+rows-allow-spec =
     tie.close
     (tie.spec (λ c. search needs) (λ c. search needs) (λ c κs. search needs) (λ c. search needs) returns returns-2 returns-3)
