@@ -24,7 +24,7 @@ pub fn leaves(transfer: Transfer) -> Change
     }
 }
 
-// A part is reset.
+// A part is reset. The transfer of such a change is not looked at.
 pub fn resets(part: Part) -> Change
     ensures { λ r. ⌜ r ≡ resetting part ⌝ }
 {
