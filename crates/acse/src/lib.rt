@@ -1,6 +1,8 @@
 // The messages that open an association: what they have by client, and the AARQ read, with the initiate request inside it.
 // specs/ has their layouts, also those of the AARE and the initiate response, which the crate acse_write writes. What is in
 // an envelope belongs to the crate envelope: here stands where it begins.
+#![tactic(auto)]
+
 mod clients;
 mod read;
 
@@ -8,7 +10,7 @@ pub use clients::{agreed, ciphers, context_name, mechanism_name};
 pub use read::{read_aarq, read_request};
 
 // What a received AARQ comes to.
-#[derive(Drop)]
+#[derive(Clone, Copy)]
 pub enum Aarq {
     // From a client that does not cipher, accepted: the place of the three bytes of proposed services.
     Plain { services: usize },
@@ -20,7 +22,7 @@ pub enum Aarq {
 }
 
 // What the opened initiate request of a client that ciphers comes to.
-#[derive(Drop)]
+#[derive(Clone, Copy)]
 pub enum InitiateRequest {
     // The places of the sixteen bytes of its dedicated key, and of the three bytes of proposed services.
     Accepted { key: usize, services: usize },

@@ -1,5 +1,7 @@
 // The AARE and the initiate response, written from `at` on; each writer asks for room only. Their layouts stand in specs/ of
 // the crate acse, which has the names by client, too. The envelope of an AARE is the caller's: here is what goes before it.
+#![tactic(auto)]
+
 ghost use Rattle.std.specs.Prelude.{◌+◌, ◌≤◌, length};
 ghost use Rattle.wire.specs.Wrote.{WroteArray};
 ghost use Rattle.acse.specs.Initiate.{initiate_response};
@@ -75,18 +77,18 @@ fn put_outcome(
     at: usize,
     size: u8,
     client: Client,
-    res: u8,
+    verdict: u8,
     diagnostic: u8,
 ) -> usize
     requires { at + 25 ≤ length out.old }
-    ensures { WroteArray 25 out.old at out.new result (outcome size client res diagnostic) }
+    ensures { WroteArray 25 out.old at out.new result (outcome size client verdict diagnostic) }
 {
     let name = wire_write::put_all(out, at, &[0x61, size, 0xA1, 9, 6, 7]);
     let results = put_name(out, name, &context_name(client));
     wire_write::put_all(
         out,
         results,
-        &[0xA2, 3, 2, 1, res, 0xA3, 5, 0xA1, 3, 2, 1, diagnostic],
+        &[0xA2, 3, 2, 1, verdict, 0xA3, 5, 0xA1, 3, 2, 1, diagnostic],
     )
 }
 

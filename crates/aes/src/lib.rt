@@ -1,6 +1,8 @@
 // AES-128 (FIPS 197): the key schedule and the cipher of one block. The state and the eleven round keys are arrays of
 // arrays by value. The rounds go by a table of whole columns, copied once a block, and the key schedule by the substitution
 // table, copied once a key; both are lent to the functions below.
+#![tactic(auto)]
+
 ghost use Rattle.std.specs.Prelude.{◌≡◌};
 ghost use Rattle.aes.specs.State.{state_of, bytes_of};
 ghost use Rattle.aes.specs.Field.{xtime, xor_word};
@@ -11,7 +13,7 @@ ghost use Rattle.aes.specs.KeyExpansion.{next_key, key_expansion};
 ghost use Rattle.aes.specs.Held.{by_columns, columns_of, held_schedule, schedule_of};
 
 // A round key, by its columns: what a struct can hold of a key schedule.
-#[derive(Drop)]
+#[derive(Clone, Copy)]
 pub struct RoundKey {
     pub a: [u8; 4],
     pub b: [u8; 4],

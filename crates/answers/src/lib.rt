@@ -1,5 +1,7 @@
 // The body's answer to an opened request, written into the reply buffer as a plain APDU, and what the request makes of the body. A
 // writer requires room for its bytes; what is to be written, and how long it is, was decided before the first byte.
+#![tactic(auto)]
+
 ghost use Rattle.std.specs.Prelude.{◌≡◌, true, List, [], ◌∷◌, ℕ, ◌+◌, ◌≤◌, length};
 ghost use Rattle.wire.specs.Wrote.{Wrote};
 ghost use Rattle.model.specs.Limits.{longest_sent, text_room};
@@ -22,14 +24,14 @@ mod granted;
 mod transfer;
 
 // What an opened APDU asks of the body: a request; or the next block of a long answer, after the block of this number.
-#[derive(Drop)]
+#[derive(Clone, Copy)]
 pub enum Inquiry {
     Ask(Asked),
     GoOn { invoke: u8, number: u32 },
 }
 
 // The number of the refusal, or 0, the place after the answer, and what becomes of the body.
-#[derive(Drop)]
+#[derive(Clone, Copy)]
 pub struct Turned {
     pub refusal: u8,
     pub next: usize,
@@ -38,7 +40,7 @@ pub struct Turned {
 
 // What a request wants: to read an attribute by a selector, or to invoke a method with an argument. The number is that of the
 // attribute or of the method; a read has no argument, and a method no selector.
-#[derive(Drop)]
+#[derive(Clone, Copy)]
 struct Want {
     reads: bool,
     number: u8,

@@ -1,4 +1,6 @@
 // Requests for the body: V's plain GET, and GET and ACTION of a client that ciphers in their envelopes; and its requests for a block.
+#![tactic(auto)]
+
 ghost use Rattle.std.specs.Prelude.{List, ℕ};
 ghost use Rattle.model.specs.declared.Client.TheVariants.{Ciphering, Verification};
 ghost use Rattle.cosem.specs.Tags.{dedicated_tag};

@@ -1,6 +1,8 @@
 // The clients on the line in code: what a client's association permits, its keys, in `challenge` whether it proves itself, and in
 // `change` what the line becomes (document 01, "The association"). Each answers for every line; crate protocol says what each
 // means.
+#![tactic(auto)]
+
 mod challenge;
 mod change;
 

@@ -1,12 +1,14 @@
 // Values of A-XDR: where one ends. The value reader and the reader of its elements call each other; the remaining depth and
 // the number of elements fall. specs/Values says what is a value; proofs/ValueLaws has the laws for callers.
+#![tactic(auto)]
+
 ghost use Rattle.std.specs.Prelude.{◌≡◌};
 ghost use Rattle.axdr.specs.Values.{elements_end, layout_of, octets_end, value_end, value_within};
 
 use wire::{End, Field};
 
 // What follows a type tag, the "kind" of document 01.
-#[derive(Drop)]
+#[derive(Clone, Copy)]
 pub enum Layout {
     // so many bytes
     Fixed(usize),

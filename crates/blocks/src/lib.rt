@@ -1,5 +1,7 @@
 // A block of a long answer, written: its head with its number, and its stretch of the data, which are worked out anew from the rows. A
 // refusal of a request for a block has the same head.
+#![tactic(auto)]
+
 ghost use Rattle.std.specs.Prelude.{◌≡◌, cond, ◌∷◌, ◌+◌, ◌*◌, ◌-◌, ◌≤◌, leb, drop, length, take};
 ghost use Rattle.wire.specs.Numbers.{high_first};
 ghost use Rattle.wire.specs.Wrote.{Wrote};
@@ -10,7 +12,7 @@ ghost use Rattle.blocks.specs.Block.{WroteBlock};
 use model::BLOCK_ROOM;
 
 // The place after a block, and whether it is the last.
-#[derive(Drop)]
+#[derive(Clone, Copy)]
 pub struct Block {
     pub next: usize,
     pub last: bool,

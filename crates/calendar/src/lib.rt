@@ -1,5 +1,7 @@
 // Clocks and capture periods: when a clock is valid, which moment it names, which periods are permitted, when a capture is due.
 // specs/ of the crate model says what each means.
+#![tactic(auto)]
+
 mod order;
 
 ghost use Rattle.std.specs.Prelude.{◌≡◌, ◌<◌, ◌≤◌};
@@ -121,6 +123,7 @@ fn days_in(year: u32, month: u32) -> u32
 }
 
 // In the years 2000 to 2099 every fourth has a 29 February.
+#[tactic(auto, unfolding(model::specs::Clocks::february_days))]
 fn february_days(year: u32) -> u32
     ensures { result ≡ february_days year }
 {

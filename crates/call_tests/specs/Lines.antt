@@ -3,7 +3,7 @@
 use Rattle.std.specs.Prelude.{cond, List, [], ◌∷◌, ◌++◌, ℕ, zero, suc, ◌/◌, ltb}
 use Prim.Native.String.{String, len, char_at}
 use Prim.Native.Char.{code}
-use Rattle.io.specs.Digits.{last_digits}
+use Rattle.text.specs.Digits.{last_digits}
 use Rattle.model.specs.declared.SoundnessTest.{SoundnessTest}
 use Rattle.model.specs.declared.SoundnessTest.TheVariants.{RegisterList, ColumnList, PeriodPermitted, ClockValid, RowClocksValid, RowCount, RowCells, AssociationKind, AssociationOnLink, AgreedServices, TransferPossible}
 use Rattle.hdlc.specs.declared.FrameTest.{FrameTest}

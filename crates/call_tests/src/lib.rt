@@ -1,11 +1,13 @@
 // The tests of a frame call: every test of documents 01 and 02 that a frame can fail, from the reply room to the number of a block,
 // by its name. specs/ has what each looks at, their order and what is claimed of the first that fails; proofs/ has the proofs. There
 // are no functions: the crate diagnosis has them.
+#![tactic(auto)]
+
 use hdlc::FrameTest;
 use model::SoundnessTest;
 
 // What is lent: refusals 1 and 2.
-#[derive(Drop)]
+#[derive(Clone, Copy)]
 pub enum LentTest {
     ReplyRoom,
     GukLength,
@@ -14,7 +16,7 @@ pub enum LentTest {
 }
 
 // Links, associations, envelopes and their counters: refusals 10, 12, 11, 6, 7, 12 again, and a proof's 13.
-#[derive(Drop)]
+#[derive(Clone, Copy)]
 pub enum LineTest {
     LinkUpWithInformation,
     P5HoldsV,
@@ -33,7 +35,7 @@ pub enum LineTest {
 }
 
 // A request for the body: refusal 13, in the order of its codes; then a numbered request.
-#[derive(Drop)]
+#[derive(Clone, Copy)]
 pub enum BodyTest {
     NameUnknown,
     ClassWrong,
@@ -48,7 +50,7 @@ pub enum BodyTest {
 }
 
 // A test of a frame call.
-#[derive(Drop)]
+#[derive(Clone, Copy)]
 pub enum CallTest {
     Lent(LentTest),
     Sound(SoundnessTest),
@@ -58,7 +60,7 @@ pub enum CallTest {
 }
 
 // What a call comes to: the first test that it fails, or none.
-#[derive(Drop)]
+#[derive(Clone, Copy)]
 pub enum Finding {
     Fails(CallTest),
     Passes,

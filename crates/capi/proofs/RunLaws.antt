@@ -253,8 +253,12 @@ module _ (ch : Chosen) (s₁ s₂ : List ℕ) {e₁ e₂ : List ℕ} {h₁ h₂ 
 
 pub library_demand3 : LibraryDemand3
 library_demand3 ch s₁ s₂ [] [] [] [] w a c none none = none_answered
+library_demand3 ch s₁ s₂ [] [] [] (h₂ ∷ hs₂) w a c r₁ r₂ = elim r₂ [ ]
+library_demand3 ch s₁ s₂ [] [] (h₁ ∷ hs₁) hs₂ w a c r₁ r₂ = elim r₁ [ ]
 library_demand3 ch s₁ s₂ [] (c₂ ∷ cs₂) hs₁ hs₂ w a c r₁ r₂ = absurd (nil≢cons c)
 library_demand3 ch s₁ s₂ (c₁ ∷ cs₁) [] hs₁ hs₂ w a c r₁ r₂ = absurd (cons≢nil c)
+library_demand3 ch s₁ s₂ (c₁ ∷ cs₁) (c₂ ∷ cs₂) [] hs₂ w a c r₁ r₂ = elim r₁ [ ]
+library_demand3 ch s₁ s₂ (c₁ ∷ cs₁) (c₂ ∷ cs₂) (h₁ ∷ hs₁) [] w a c r₁ r₂ = elim r₂ [ ]
 library_demand3 ch s₁ s₂ (c₁ ∷ cs₁) (c₂ ∷ cs₂) (h₁ ∷ hs₁) (h₂ ∷ hs₂) w a c (more e₁ x r₁) (more e₂ y r₂) =
     let b = both ch s₁ s₂ w a c₁ c₂ (head-eq_of_cons-eq c) x y in
     more_answered b.same

@@ -4,6 +4,8 @@
 // the buffer, and the meter that comes back is written there, with zeros wherever it holds nothing: by an owner's call
 // (owner_calls) where it is accepted, by a frame call unless its refusal leaves the meter unchanged. Else nothing is written.
 // include/birlimock.h has the calls as C sees them.
+#![tactic(auto)]
+
 mod frame;
 
 ghost use Rattle.std.specs.Prelude.{◌≡◌, length};
@@ -17,7 +19,7 @@ ghost use Rattle.capi.specs.Version.{library_version};
 use ending::Received;
 use image::SIZE;
 
-// 2.1.0, in one number.
+// 3.0.1, in one number.
 const VERSION: u32 = 30001;
 
 // The version of the library.

@@ -1,2 +1,3 @@
 pub mod HalfLaws
 pub mod LayoutLaws
+pub mod Circuits

@@ -10,7 +10,7 @@ ghost use Rattle.circuit.specs.Layout.{half_at, whole_at};
 use planes::Planes;
 
 // A half of the byte in each lane, by its four bits.
-#[derive(Drop)]
+#[derive(Clone, Copy)]
 pub struct Half {
     pub a: u64,
     pub b: u64,
@@ -19,7 +19,7 @@ pub struct Half {
 }
 
 // The byte in each lane, by its halves.
-#[derive(Drop)]
+#[derive(Clone, Copy)]
 pub struct Halves {
     pub low: Half,
     pub high: Half,

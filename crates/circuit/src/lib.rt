@@ -1,5 +1,7 @@
 // The transformations of AES (FIPS 197, 5.1) on bit planes of four blocks, by exclusive ors, ands, shifts and masks of whole words: nothing
 // is read from a table, and nothing branches. Lane 16 r + 4 c + b holds the byte in row r and column c of block b.
+#![tactic(auto)]
+
 mod halves;
 mod turns;
 

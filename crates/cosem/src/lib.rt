@@ -1,6 +1,8 @@
 // Plain APDUs of the COSEM services: tags, GET and ACTION requests and requests for a block read, release, exceptions. Readers
 // answer for every slice; names and values stay in the APDU and are read at their places. specs/ says what each means; proofs/ has
 // the laws for callers.
+#![tactic(auto)]
+
 mod request;
 mod shapes;
 mod tags;
@@ -11,7 +13,7 @@ pub use shapes::{entries_at, is_integer_at, range_at, rest_of};
 pub use tags::{answer_tag, dedicated_tag, is_release, put_exception, put_release, tag_in, tag_of};
 
 // The services of the requests that have a tag.
-#[derive(Drop)]
+#[derive(Clone, Copy)]
 pub enum ServiceKind {
     Get,
     Set,
@@ -20,7 +22,7 @@ pub enum ServiceKind {
 
 // The tags of the APDUs that a client may send. A request goes plain, or in an envelope under the dedicated key; an ACTION in one
 // under the client's GUK.
-#[derive(Drop)]
+#[derive(Clone, Copy)]
 pub enum Tag {
     Aarq,
     Rlrq,
@@ -31,14 +33,14 @@ pub enum Tag {
 }
 
 // The two exceptions.
-#[derive(Drop)]
+#[derive(Clone, Copy)]
 pub enum Exception {
     ServiceNotAllowed,
     ServiceUnknown,
 }
 
 // The optional part of a request: its selector and value, or its parameter. Wrong where an APDU is no such request.
-#[derive(Drop)]
+#[derive(Clone, Copy)]
 pub enum Part {
     Absent,
     Present,
@@ -47,7 +49,7 @@ pub enum Part {
 
 // What a request wants: an attribute read, a method invoked. The value of a selector or a parameter begins at `at` and ends
 // with the APDU.
-#[derive(Drop)]
+#[derive(Clone, Copy)]
 pub enum Wanted {
     Read {
         attribute: u8,
@@ -67,7 +69,7 @@ pub enum Wanted {
 }
 
 // A request but for its name, which stands in the APDU.
-#[derive(Drop)]
+#[derive(Clone, Copy)]
 pub struct Asked {
     pub invoke: u8,
     pub class: u16,
@@ -75,7 +77,7 @@ pub struct Asked {
 }
 
 // A plain APDU that was read as a request, or as one for the next block of a long answer, after the block of this number.
-#[derive(Drop)]
+#[derive(Clone, Copy)]
 pub enum Reading {
     Asks(Asked),
     GoesOn { invoke: u8, number: u32 },
@@ -83,7 +85,7 @@ pub enum Reading {
 }
 
 // The four numbers of an entry descriptor; or that a value is none.
-#[derive(Drop)]
+#[derive(Clone, Copy)]
 pub enum Entries {
     Described {
         from: u32,
@@ -95,7 +97,7 @@ pub enum Entries {
 }
 
 // The clocks of a range descriptor, each from its place; and whether the value is one.
-#[derive(Drop)]
+#[derive(Clone, Copy)]
 pub struct Range {
     pub described: bool,
     pub from: Clock,

@@ -1,5 +1,7 @@
 // The counter pair of a ciphering client: the meter's own counter advanced where it stands, and the tests of the counters that
 // the client sends. specs/Advance and specs/Window say what each means, specs/Steps what is claimed of the window. Nothing here has a `requires`.
+#![tactic(auto)]
+
 ghost use Rattle.std.specs.Prelude.{◌≡◌};
 ghost use Rattle.counters.specs.Advance.{taken};
 ghost use Rattle.counters.specs.Window.{accepting, inner_allowed, in_window, step_to};
@@ -7,7 +9,7 @@ ghost use Rattle.counters.specs.Window.{accepting, inner_allowed, in_window, ste
 use model::Counters;
 
 // The pair after a number was taken, and that number, the one to use.
-#[derive(Drop)]
+#[derive(Clone, Copy)]
 pub struct Taken {
     pub counters: Counters,
     pub number: u32,
@@ -56,6 +58,7 @@ fn step_to(accepted: u32, counter: u32) -> u32
 }
 
 // Whether the counter of an envelope that opened lies in its window.
+#[tactic(auto, unfolding(crate::specs::Window::in_window))]
 pub fn is_in_window(pair: Counters, counter: u32) -> bool
     ensures { result ≡ in_window pair.accepted counter }
 {

@@ -1,5 +1,7 @@
 // The data of attributes, written into the reply buffer from the values they are made of: a byte for the kind of each, then
 // its bytes. A writer requires room for its bytes; which data a request comes to is not decided here.
+#![tactic(auto)]
+
 mod rows;
 
 ghost use Rattle.std.specs.Prelude.{◌∷◌, ◌+◌, ◌≤◌, drop, length, take};

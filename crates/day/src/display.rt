@@ -13,14 +13,14 @@ const ANSWER: u8 = 0xD4;
 const WHOLE: u16 = 0x0F47;
 
 // The text with the rows.
-#[derive(Drop)]
+#[derive(Clone, Copy)]
 pub struct Rows {
     pub text: [u8; 765],
     pub size: usize,
 }
 
 // What an answer holds: whether it is what was waited for, the meter's last counter, and a text.
-#[derive(Drop)]
+#[derive(Clone, Copy)]
 struct Letter {
     right: bool,
     counter: u32,
@@ -28,9 +28,9 @@ struct Letter {
 }
 
 // The last answer is held against what a line waits for.
-pub fn heard(mut s: Scene, l: &[u8]) -> Scene {
+pub fn heard(printer: &impl Print, mut s: Scene, l: &[u8]) -> Scene {
     let a = read(s.answer, s.counter, l);
-    print_words(l, a.right);
+    print_words(printer, l, a.right);
     s.open = a.right;
     s.counter = a.counter;
     let rows = newer(s.rows, a.rows);
@@ -42,9 +42,9 @@ fn newer(old: Rows, new: Rows) -> Rows {
     if new.size == 0 { old } else { new }
 }
 
-pub fn print_rows(rows: Rows) {
+pub fn print_rows(printer: &impl Print, rows: Rows) {
     let text = rows.text;
-    table::print_rows(text_of(&text, rows.size));
+    table::print_rows(printer, text_of(&text, rows.size));
 }
 
 fn read(a: Answer, counter: u32, l: &[u8]) -> Letter {

@@ -15,6 +15,8 @@
 //     $|words|words                   the first, where no answer has told of a value; else the second
 //
 // Every other line is a call of the owner, as `docs/SCRIPT.md` has it, and made on both.
+#![tactic(auto)]
+
 mod display;
 mod play;
 mod plug;
@@ -23,12 +25,14 @@ mod table;
 use display::Rows;
 use meter::Meter;
 use plug::Answer;
+use std::env::FillError;
+use std::rt::Env;
 use text::{after, field, print};
 
 // The meter and its twin; the challenge that is lent, and the last answer; the meter's last counter and the text with the rows,
 // as the home display has them; whether the owner's calls were all accepted, whether any answer has told of a value, whether
 // frames are shown, and whether the play goes on.
-#[derive(Drop)]
+#[derive(Clone, Copy)]
 pub struct Scene {
     pub meter: Meter,
     pub twin: Meter,
@@ -42,40 +46,62 @@ pub struct Scene {
     pub open: bool,
 }
 
-fn main() {
-    let n = os::arg_count();
-    match n {
-        0 | 1 => night(false),
-        2 => with_argument(),
-        _ => print_usage(),
+fn main(rt: HostRuntime) {
+    if has_argument(&rt, 2) {
+        print_usage(&rt)
+    } else if has_argument(&rt, 1) {
+        with_argument(&rt)
+    } else {
+        night(&rt, false)
     }
 }
 
-fn with_argument() {
+// Whether the program was started with an argument at this place; its name is the one at 0.
+fn has_argument(env: &impl Env, i: usize) -> bool {
+    let mut none = [0u8; 0];
+    match env.arg(i, &mut none) {
+        Err(FillError::NotPresent) => false,
+        _ => true,
+    }
+}
+
+fn with_argument(rt: &(impl Env + Print)) {
+    if is_frames(rt) {
+        return night(rt, true);
+    }
+    print_usage(rt)
+}
+
+fn is_frames(env: &impl Env) -> bool {
     let mut word = [0u8; 9];
-    let k = os::arg(1, &mut word);
-    if wire::same(&word[..k], b"--frames") {
-        return night(true);
+    match env.arg(1, &mut word) {
+        Ok(k) => wire::same(text::first(&word, k), b"--frames"),
+        Err(_) => false,
     }
-    print_usage()
 }
 
-fn print_usage() {
-    print(b"usage: day [--frames]     --frames shows every frame in hexadecimal\n")
+fn print_usage(printer: &impl Print) {
+    print(
+        printer,
+        b"usage: day [--frames]     --frames shows every frame in hexadecimal\n",
+    )
 }
 
 // The acts in turn. The stranger comes to the plug twice: as the home display has read, and as it has left.
-fn night(shown: bool) {
+fn night(printer: &impl Print, shown: bool) {
     let m = Meter::new([0; 16], [0; 8], [0; 8], [0; 8]);
-    let read = play::home_display(play::hour_again(play::owner(begun(m, shown))));
-    let left = play::leaving(read);
+    let read = play::home_display(
+        printer,
+        play::hour_again(printer, play::owner(printer, begun(m, shown))),
+    );
+    let left = play::leaving(printer, read);
     let mut before = read;
     before.open = left.open;
     before.told = false;
-    let a = play::stranger(before);
+    let a = play::stranger(printer, before);
     let mut after = left;
     after.told = a.told;
-    play::stranger_again(after);
+    play::stranger_again(printer, after);
 }
 
 fn begun(m: Meter, shown: bool) -> Scene {
@@ -101,24 +127,24 @@ fn begun(m: Meter, shown: bool) -> Scene {
 }
 
 // Line after line.
-pub fn walk(mut s: Scene, text: &[u8]) -> Scene {
+pub fn walk(printer: &impl Print, mut s: Scene, text: &[u8]) -> Scene {
     let mut at: usize = 0;
     while at < text.len() {
-        s = line(s, text::line_at(text, at));
+        s = line(printer, s, text::line_at(text, at));
         at = text::after_line(text, at);
     }
     s
 }
 
-fn line(s: Scene, l: &[u8]) -> Scene {
+fn line(printer: &impl Print, s: Scene, l: &[u8]) -> Scene {
     let mark = mark_of(s.open, l);
     match mark {
         0 => s,
-        b'?' => plug::asked(s, l),
+        b'?' => plug::asked(printer, s, l),
         b'!' => plug::lent(s, l),
-        b'%' => display::heard(s, l),
-        b'>' | b'*' | b':' | b'/' | b'$' => printed(s, mark, l),
-        _ => plug::called(s, l),
+        b'%' => display::heard(printer, s, l),
+        b'>' | b'*' | b':' | b'/' | b'$' => printed(printer, s, mark, l),
+        _ => plug::called(printer, s, l),
     }
 }
 
@@ -128,29 +154,29 @@ fn mark_of(open: bool, l: &[u8]) -> u8 {
 }
 
 // The lines that only print.
-fn printed(s: Scene, mark: u8, l: &[u8]) -> Scene {
+fn printed(printer: &impl Print, s: Scene, mark: u8, l: &[u8]) -> Scene {
     match mark {
-        b'>' => print_line(after(l, 1)),
+        b'>' => print_line(printer, after(l, 1)),
         b'*' => {
             let rows = s.rows;
-            display::print_rows(rows)
+            display::print_rows(printer, rows)
         }
-        b':' => print_words(l, s.answer.number == text::byte(l, 3)),
-        b'/' => print_words(l, s.accepted),
-        _ => print_words(l, !s.told),
+        b':' => print_words(printer, l, s.answer.number == text::byte(l, 3)),
+        b'/' => print_words(printer, l, s.accepted),
+        _ => print_words(printer, l, !s.told),
     }
     s
 }
 
 // The words of a line where something holds, and its other words where not; none, where it has none.
-pub fn print_words(l: &[u8], holds: bool) {
+pub fn print_words(printer: &impl Print, l: &[u8], holds: bool) {
     let words = field(l, if holds { 1 } else { 2 });
     if 0 < words.len() {
-        print_line(words);
+        print_line(printer, words);
     }
 }
 
-pub fn print_line(s: &[u8]) {
-    print(s);
-    print(b"\n");
+pub fn print_line(printer: &impl Print, s: &[u8]) {
+    print(printer, s);
+    print(printer, b"\n");
 }

@@ -11,8 +11,9 @@ pub const DEDICATED: [u8; 16] =
 
 pub const TITLE: [u8; 8] = *b"\x4D\x4D\x4D\x00\x00\xBC\x61\x4E";
 
-pub fn owner(s: Scene) -> Scene {
+pub fn owner(printer: &impl Print, s: Scene) -> Scene {
     walk(
+        printer,
         s,
         b"\
         >A NIGHT AT THE PLUG OF AN ELECTRICITY METER\n\
@@ -98,8 +99,9 @@ pub fn owner(s: Scene) -> Scene {
     )
 }
 
-pub fn hour_again(s: Scene) -> Scene {
+pub fn hour_again(printer: &impl Print, s: Scene) -> Scene {
     walk(
+        printer,
         s,
         b"\
         value 0100010802FF 8120742\n\
@@ -171,8 +173,9 @@ pub fn hour_again(s: Scene) -> Scene {
     )
 }
 
-pub fn home_display(s: Scene) -> Scene {
+pub fn home_display(printer: &impl Print, s: Scene) -> Scene {
     walk(
+        printer,
         s,
         b"\
         >\n\
@@ -215,8 +218,9 @@ pub fn home_display(s: Scene) -> Scene {
     )
 }
 
-pub fn leaving(s: Scene) -> Scene {
+pub fn leaving(printer: &impl Print, s: Scene) -> Scene {
     walk(
+        printer,
         s,
         b"\
         ?|   the end of the association                    |7EA011032713EC59E6E6006203800100BD9B7E\n\
@@ -231,8 +235,9 @@ pub fn leaving(s: Scene) -> Scene {
     )
 }
 
-pub fn stranger(s: Scene) -> Scene {
+pub fn stranger(printer: &impl Print, s: Scene) -> Scene {
     walk(
+        printer,
         s,
         b"\
         >\n\
@@ -253,8 +258,9 @@ pub fn stranger(s: Scene) -> Scene {
     )
 }
 
-pub fn stranger_again(s: Scene) -> Scene {
+pub fn stranger_again(printer: &impl Print, s: Scene) -> Scene {
     walk(
+        printer,
         s,
         b"\
         !|910C5EA2337BD804\n\

@@ -18,7 +18,7 @@ const ROOM: usize = 779;
 pub const LONGEST: usize = 128;
 
 // The answer to a frame: its number, and how many bytes of the room it has.
-#[derive(Drop)]
+#[derive(Clone, Copy)]
 pub struct Answer {
     pub number: u8,
     pub room: [u8; ROOM],
@@ -26,31 +26,31 @@ pub struct Answer {
 }
 
 // The meter after a frame, and its answer.
-#[derive(Drop)]
+#[derive(Clone, Copy)]
 struct Reply {
     meter: Meter,
     answer: Answer,
 }
 
 // A call of the owner.
-pub fn called(mut s: Scene, l: &[u8]) -> Scene {
+pub fn called(printer: &impl Print, mut s: Scene, l: &[u8]) -> Scene {
     let a = script_calls::owned(s.meter, l, 0);
     let b = script_calls::owned(s.twin, l, GREATER);
     let m = a.meter;
     s.meter = m;
     let t = b.meter;
     s.twin = t;
-    s.accepted = is_accepted(s.accepted, b.column, a.refusal | b.refusal, l);
+    s.accepted = is_accepted(printer, s.accepted, b.column, a.refusal | b.refusal, l);
     s
 }
 
 // Whether all calls were accepted, up to one with this refusal. A call that is refused, or cannot be read, is told at once.
-fn is_accepted(before: bool, column: usize, refusal: u8, l: &[u8]) -> bool {
+fn is_accepted(printer: &impl Print, before: bool, column: usize, refusal: u8, l: &[u8]) -> bool {
     if column == 0 && refusal == 0 {
         return before;
     }
-    print(b"   A call of the owner was refused: ");
-    print_line(l);
+    print(printer, b"   A call of the owner was refused: ");
+    print_line(printer, l);
     false
 }
 
@@ -62,14 +62,14 @@ pub fn lent(mut s: Scene, l: &[u8]) -> Scene {
 }
 
 // A frame is put to both.
-pub fn asked(s: Scene, l: &[u8]) -> Scene {
+pub fn asked(printer: &impl Print, s: Scene, l: &[u8]) -> Scene {
     let mut frame = [0u8; LONGEST];
     let n = text::bytes(l, 2, &mut frame);
-    put_to_both(s, l, part(&frame, n))
+    put_to_both(printer, s, l, part(&frame, n))
 }
 
 // A line tells what came of it.
-fn put_to_both(mut s: Scene, l: &[u8], frame: &[u8]) -> Scene {
+fn put_to_both(printer: &impl Print, mut s: Scene, l: &[u8], frame: &[u8]) -> Scene {
     let challenge = s.challenge;
     let a = put(s.meter, challenge, frame);
     let b = put(s.twin, challenge, frame);
@@ -79,8 +79,8 @@ fn put_to_both(mut s: Scene, l: &[u8], frame: &[u8]) -> Scene {
     s.twin = t;
     let answer = a.answer;
     s.answer = answer;
-    s.told = s.told | tells(l, answer, b.answer);
-    show(s.shown, frame, answer);
+    s.told = s.told | tells(printer, l, answer, b.answer);
+    show(printer, s.shown, frame, answer);
     s
 }
 
@@ -108,9 +108,9 @@ fn as_reply(d: Done, room: [u8; ROOM]) -> Reply {
 }
 
 // Whether the answers of both tell their values apart: a line says so.
-fn tells(l: &[u8], a: Answer, b: Answer) -> bool {
+fn tells(printer: &impl Print, l: &[u8], a: Answer, b: Answer) -> bool {
     let alike = is_alike(a, b);
-    print_answer(l, a.number, alike);
+    print_answer(printer, l, a.number, alike);
     !alike
 }
 
@@ -131,9 +131,10 @@ pub fn sent(room: &[u8; ROOM], n: usize) -> &[u8] {
 }
 
 // What was asked, what the number of a frame call means, and whether the answer tells of values.
-fn print_answer(l: &[u8], number: u8, alike: bool) {
-    print(field(l, 1));
+fn print_answer(printer: &impl Print, l: &[u8], number: u8, alike: bool) {
+    print(printer, field(l, 1));
     print_meaning(
+        printer,
         b"something\n|nothing\n|\
         \x20 0  accepted                                      |\
         \x20 1  silence: too little room for a reply          |\
@@ -154,47 +155,47 @@ fn print_answer(l: &[u8], number: u8, alike: bool) {
     );
 }
 
-fn print_meaning(words: &[u8], number: u8, alike: bool) {
-    print(field(words, wide(number) + 2));
-    print(field(words, if alike { 1 } else { 0 }));
+fn print_meaning(printer: &impl Print, words: &[u8], number: u8, alike: bool) {
+    print(printer, field(words, wide(number) + 2));
+    print(printer, field(words, if alike { 1 } else { 0 }));
 }
 
 // A frame and its answer, where they are to be shown.
-fn show(shown: bool, frame: &[u8], a: Answer) {
+fn show(printer: &impl Print, shown: bool, frame: &[u8], a: Answer) {
     if shown {
-        print_frames(frame, a);
+        print_frames(printer, frame, a);
     }
 }
 
-fn print_frames(frame: &[u8], a: Answer) {
+fn print_frames(printer: &impl Print, frame: &[u8], a: Answer) {
     let room = a.room;
-    print(b"     asked   ");
-    print_bytes(frame);
-    print(b"\n     answer  ");
-    print_sent(sent(&room, a.count));
-    print(b"\n");
+    print(printer, b"     asked   ");
+    print_bytes(printer, frame);
+    print(printer, b"\n     answer  ");
+    print_sent(printer, sent(&room, a.count));
+    print(printer, b"\n");
 }
 
-fn print_sent(s: &[u8]) {
+fn print_sent(printer: &impl Print, s: &[u8]) {
     if s.len() == 0 {
-        print(b" none");
+        print(printer, b" none");
     }
-    print_bytes(s);
+    print_bytes(printer, s);
 }
 
 // Bytes, 32 on a line.
-fn print_bytes(s: &[u8]) {
+fn print_bytes(printer: &impl Print, s: &[u8]) {
     let mut i: usize = 0;
     while i < s.len() {
-        print_gap(i);
-        text::print_hex(first(after(s, i), 1));
+        print_gap(printer, i);
+        text::print_hex(printer, first(after(s, i), 1));
         i += 1;
     }
 }
 
 // What stands before a byte: a space, and a new line before it where one is full.
-fn print_gap(i: usize) {
-    print(after(b"\n              ", gap(i)));
+fn print_gap(printer: &impl Print, i: usize) {
+    print(printer, after(b"\n              ", gap(i)));
 }
 
 fn gap(i: usize) -> usize {

@@ -1,6 +1,8 @@
 // Why a frame call is refused: the first test of documents 01 and 02 that it fails, for every meter, frame and length lent. It
 // goes the road of the frame call with the same readers, and makes no reply. It works with the keys, for their holder: what it
 // tells stands outside demand 3, and it is no part of the static library. The crate call_tests has the tests.
+#![tactic(auto)]
+
 mod apdus;
 mod envelopes;
 mod requests;
@@ -26,7 +28,7 @@ use model::Client;
 use protocol::Secrets;
 
 // What is told of a call: the number that it answers, the test that it fails first or none, and where the frame fails it.
-#[derive(Drop)]
+#[derive(Clone, Copy)]
 pub struct Explained {
     pub refusal: u8,
     pub finding: Finding,
@@ -34,7 +36,7 @@ pub struct Explained {
 }
 
 // What an envelope comes to: it fails a test, or it opens with a counter and so many bytes of text.
-#[derive(Drop)]
+#[derive(Clone, Copy)]
 enum Inside {
     Refused(LineTest),
     Opened { counter: u32, size: usize },

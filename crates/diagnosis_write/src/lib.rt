@@ -1,5 +1,7 @@
 // The line that tells of a call, written into a lent buffer: "the refusal number, the test that failed", and its place. What the
-// line is stands in specs/Lines of the crate call_tests; specs/ here has how long it can become. The names stand in `names`.
+// line is stands in specs/Lines of the crate call_tests; specs/ here has how long it can become. The names stand in `test_names`.
+#![tactic(auto)]
+
 ghost use Rattle.std.specs.Prelude.{◌++◌, ◌+◌, ◌≤◌, length};
 ghost use Rattle.wire.specs.Wrote.{Wrote};
 ghost use Rattle.call_tests.specs.Lines.{letters, name_found, decimal, place_text, spelled};
@@ -9,7 +11,7 @@ ghost use Rattle.diagnosis_write.specs.Rows.{row_from, word};
 use call_tests::Finding;
 use hdlc::Place;
 
-mod names;
+mod test_names;
 
 // The most letters that a line has: three digits, a space, a name, a space, twenty digits.
 pub const LONGEST_LINE: usize = 51;
@@ -47,9 +49,9 @@ fn put_decimal(out: &mut [u8], at: usize, n: u64) -> usize
     requires { at + longest_place ≤ length out.old }
     ensures { Wrote out.old at out.new result (decimal n) }
 {
-    let mut text = [0u8; 20];
-    let k = io::decimal(n, &mut text);
-    wire_write::put_all(out, at, &text[..k])
+    let mut digits = [0u8; 20];
+    let k = text::decimal(n, &mut digits);
+    wire_write::put_all(out, at, &digits[..k])
 }
 
 // The name of the test that failed, or that none did.
@@ -58,8 +60,8 @@ fn put_name(out: &mut [u8], at: usize, finding: Finding) -> usize
     ensures wrote { Wrote out.old at out.new result (letters (name_found finding)) }
     ensures upper_bound { result ≤ at + longest_name }
 {
-    let row = names::row_found(finding);
-    put_word(out, at, &names::NAMES, row * 26)
+    let row = test_names::row_found(finding);
+    put_word(out, at, &test_names::NAMES, row * 26)
 }
 
 // The word that begins a row of 26 letters, from `start` on.

@@ -1,4 +1,6 @@
 // How a frame call ends: what the line answers by itself, as it was, as another or with an exception; and what becomes of the body.
+#![tactic(auto)]
+
 ghost use Rattle.std.specs.Prelude.{◌≡◌, List, ℕ};
 ghost use Rattle.model.specs.State.{none};
 ghost use Rattle.model.specs.declared.Client.TheVariants.{Ciphering};
@@ -18,7 +20,7 @@ use meter::Meter;
 use model::{CipherClient, Client};
 
 // What a frame call hands back: the number of its refusal, or 0, how many bytes of the reply room go out, and the meter.
-#[derive(Drop)]
+#[derive(Clone, Copy)]
 pub struct Received {
     pub refusal: u8,
     pub count: usize,
@@ -26,7 +28,7 @@ pub struct Received {
 }
 
 // What a frame comes to: the number, the count, the line, and what becomes of the body.
-#[derive(Drop)]
+#[derive(Clone, Copy)]
 pub struct Heard {
     pub refusal: u8,
     pub count: usize,
@@ -35,7 +37,7 @@ pub struct Heard {
 }
 
 // What the line answers by itself: the same, without the body. No register, row or clock has a part in it.
-#[derive(Drop)]
+#[derive(Clone, Copy)]
 pub struct Told {
     pub refusal: u8,
     pub count: usize,

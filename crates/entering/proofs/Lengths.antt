@@ -2,7 +2,7 @@
 -- field's relation stands at `.1 .1`, one `.1` for each field before it, then `.0`; an array's length in that at `.1 .0 .1`.
 use mathlib.Core.Path.{◌≡◌}
 use mathlib.Core.List.{List}
-use lib.ListN.{length, length-map}
+use lib.ListN.{length}
 use mir.Val.{Val}
 use denote.Laws.{Is}
 use denote.Struct.Declared.{row}
@@ -16,5 +16,5 @@ use Rattle.protocol.specs.Clients.{peer}
 
 pub title_long : (l : LineState) (vs : List Val) → Is (row line-type) l vs → (c : Client) → length (peer c (line_of l)).title ≡ 8
 unfolding line_of
-title_long l vs g Verification = simp length-map at g.1.1.1.0.1.1.0.1.0.1
-title_long l vs g (Ciphering Han) = simp length-map at g.1.1.1.1.0.1.1.0.1.1.0.1.0.1
+title_long l vs g Verification = g.1.1.1.0.1.1.0.1.0.1
+title_long l vs g (Ciphering Han) = g.1.1.1.1.0.1.1.0.1.1.0.1.0.1

@@ -1,6 +1,8 @@
 // Ciphered APDUs: envelopes opened and closed, and the proofs of the challenge (document 01, "The envelope and its counters").
 // specs/Layout, specs/Opening and specs/Challenge say what each function means; keys, made ready by `material`, and titles are
 // given by the caller.
+#![tactic(auto)]
+
 mod challenge;
 mod close;
 mod open;
@@ -13,14 +15,14 @@ pub use open::{admit_envelope, open_envelope, read_shape};
 pub const LONGEST_APDU: usize = 765;
 
 // What an APDU comes to: no envelope, or not one sealed under these keys; or the counter and the size of the plain text.
-#[derive(Drop)]
+#[derive(Clone, Copy)]
 pub enum Opening {
     Fails,
     Opens { counter: u32, size: usize },
 }
 
 // The same, with the counter held against its window.
-#[derive(Drop)]
+#[derive(Clone, Copy)]
 pub enum Admission {
     Unopened,
     OutsideWindow,
@@ -28,7 +30,7 @@ pub enum Admission {
 }
 
 // The counter of an envelope, and where its cipher text and its GCM tag begin; or none, where the bytes are not of that shape.
-#[derive(Drop)]
+#[derive(Clone, Copy)]
 pub enum Shape {
     Misshapen,
     Shaped {

@@ -1,4 +1,6 @@
 // The check of a frame, a byte at a time by a table. The table is made once for each call of `check` and lent.
+#![tactic(auto)]
+
 ghost use Rattle.std.specs.Prelude.{◌≡◌};
 ghost use Rattle.fcs.specs.Check.{check_byte, check_of, Shifted};
 

@@ -1,6 +1,8 @@
 // AES-128-GCM (SP 800-38D, 7.1 and 7.2): sealing where the text stands, opening into a lent buffer, GMAC. A key is made ready
-// once and used as often as it is wanted. Nonces and tags have twelve bytes. No function here has a `requires`.
-ghost use Rattle.std.specs.Prelude.{◌≡◌};
+// once and used as often as it is wanted. Nonces and tags have twelve bytes. No public function here has a `requires`.
+#![tactic(auto)]
+
+ghost use Rattle.std.specs.Prelude.{◌≡◌, ◌≤◌, ◌++◌, length, drop};
 ghost use Rattle.ghash.specs.Product.{num};
 ghost use Rattle.gcm.specs.Gcm.{hash_key, bit_length, authenticated, tag, authentic, «gmac» as gmacOf, «ready» as readyOf};
 ghost use Rattle.gcm.specs.Calls.{under, key_of, Sealed, Unsealed};
@@ -9,7 +11,7 @@ use aes::RoundKey;
 use ghash::Block;
 
 // A key made ready: its key schedule, as a struct holds it, and its hash subkey.
-#[derive(Drop)]
+#[derive(Clone, Copy)]
 pub struct ReadyKey {
     pub rounds: [RoundKey; 11],
     pub subkey: Block,
@@ -53,11 +55,23 @@ pub fn open_into(
     let h = key.subkey;
     let w = schedule_of(key);
     if matches(w, h, nonce, aad, c, t) {
-        bytes::copy(c, out);
+        copy(c, out);
         gctr::encipher(w, nonce, 2, &mut out[..n]);
         return true;
     }
     false
+}
+
+// Lays the bytes of c into the first places of out.
+fn copy(c: &[u8], out: &mut [u8])
+    requires { length c.now ≤ length out.old }
+    ensures { out.new ≡ c.now ++ drop (length c.now) out.old }
+{
+    let mut i = 0;
+    while i < c.len() {
+        out[i] = c[i];
+        i += 1;
+    }
 }
 
 // Whether t is the tag of the cipher text c.

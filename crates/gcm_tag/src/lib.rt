@@ -1,4 +1,6 @@
 // The comparison of a tag that was received with the right one: every byte is compared, wherever two differ.
+#![tactic(auto)]
+
 ghost use Rattle.std.specs.Prelude.{◌≡◌};
 ghost use Rattle.wire.specs.Reading.{same_bytes};
 

@@ -1,4 +1,6 @@
 // GCTR (SP 800-38D, 6.5) over AES-128, on the bytes where they stand.
+#![tactic(auto)]
+
 ghost use Rattle.std.specs.Prelude.{◌≡◌, min};
 ghost use Rattle.gctr.specs.Gctr.{counter_block, stream_block, xor_with, gctr};
 

@@ -1,5 +1,7 @@
 // GHASH (SP 800-38D, 6.3 and 6.4). A block is two words by value. The product goes four bits at a time, by two tables: the
 // products of the hash subkey, made once a message, and the feedback of four shifts.
+#![tactic(auto)]
+
 ghost use Rattle.std.specs.Prelude.{◌≡◌, [], ◌∷◌, ◌++◌, ◌+◌, ◌/◌, ◌<◌, ◌≤◌, get_or, length};
 ghost use Rattle.std.specs.Int.Bits.{bit_xor};
 ghost use Rattle.gf2.specs.Shift.{step, steps};
@@ -8,14 +10,14 @@ ghost use Rattle.ghash.specs.Nibble.{turns_from, sums_of, block_at, Products, Fe
 ghost use Rattle.ghash.specs.Hash.{word64, block, blocks, ghash_from, ghash, block_bytes};
 
 // A block: its first 64 bits, and its last.
-#[derive(Drop)]
+#[derive(Clone, Copy)]
 pub struct Block {
     pub hi: u64,
     pub lo: u64,
 }
 
 // The products of a block by each number of four bits: their first words, and their last.
-#[derive(Drop)]
+#[derive(Clone, Copy)]
 struct ProductTable {
     hi: [u64; 16],
     lo: [u64; 16],

@@ -1,5 +1,7 @@
 // HDLC frames of the P2 link (document 01, "The frame"): received ones read, an answer for every byte slice. specs/ says what
 // is read, and what a reply is, which the crate hdlc_write writes; proofs/ has the laws for callers.
+#![tactic(auto)]
+
 mod read;
 mod tests;
 
@@ -8,7 +10,7 @@ pub use read::read_frame;
 pub use tests::{number_of, place_of};
 
 // The tests of a received frame, in the order of document 01: eight of refusal 4, one of 5, one of 8, eight of 9.
-#[derive(Drop)]
+#[derive(Clone, Copy)]
 pub enum FrameTest {
     ShortFrame,
     FlagMissing,
@@ -31,14 +33,14 @@ pub enum FrameTest {
 }
 
 // What a list of tests comes to: the first that fails, or none.
-#[derive(Drop)]
+#[derive(Clone, Copy)]
 pub enum Verdict {
     Failed(FrameTest),
     Passed,
 }
 
 // Addresses and control as they were received. A reply exchanges the addresses, and an FRMR repeats the control.
-#[derive(Drop)]
+#[derive(Clone, Copy)]
 pub struct Head {
     pub destination: u8,
     pub source: u8,
@@ -46,14 +48,14 @@ pub struct Head {
 }
 
 // Who a source address belongs to.
-#[derive(Drop)]
+#[derive(Clone, Copy)]
 pub enum Sender {
     Known(Client),
     Unknown,
 }
 
 // What a received frame is.
-#[derive(Drop)]
+#[derive(Clone, Copy)]
 pub enum Frame {
     // Refused by a test, and nothing goes out.
     Unanswered(FrameTest),
@@ -80,7 +82,7 @@ pub enum Frame {
 }
 
 // The first byte of the field that a test is about, counted from 0; none for refusals 5 and 8.
-#[derive(Drop)]
+#[derive(Clone, Copy)]
 pub enum Place {
     Byte(usize),
     Nowhere,

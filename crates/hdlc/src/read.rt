@@ -214,6 +214,7 @@ fn fcs_wrong(frame: &[u8]) -> bool
 }
 
 // Whether the HCS is not the check of the bytes before it, where the frame has one.
+#[tactic(auto, unfolding(crate::specs::Layout::hcs_of))]
 fn hcs_wrong(frame: &[u8]) -> bool
     requires { 9 ≤ length frame.now }
     ensures { result ≡ fails meter_side WrongHcs frame.now }

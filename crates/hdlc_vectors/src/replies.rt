@@ -3,22 +3,22 @@
 use hdlc::{FrameTest, Head};
 use text::{byte, first, print};
 
-pub fn ua(s: &[u8]) {
+pub fn ua(printer: &impl Print, s: &[u8]) {
     let mut out = [0xAAu8; 24];
     let count = hdlc_write::put_ua(&mut out, received(s, 0x93));
-    show(&out, count);
+    show(printer, &out, count);
 }
 
-pub fn dm(s: &[u8]) {
+pub fn dm(printer: &impl Print, s: &[u8]) {
     let mut out = [0xAAu8; 24];
     let count = hdlc_write::put_dm(&mut out, received(s, 0x53));
-    show(&out, count);
+    show(printer, &out, count);
 }
 
-pub fn frmr(s: &[u8]) {
+pub fn frmr(printer: &impl Print, s: &[u8]) {
     let mut out = [0xAAu8; 24];
     let count = hdlc_write::put_frmr(&mut out, received(s, byte(s, 3)), test_of(s));
-    show(&out, count);
+    show(printer, &out, count);
 }
 
 // The test that failed, by the first letter of its name: over-length, short-information, wrong-source, or else unknown-control.
@@ -32,14 +32,14 @@ fn test_of(s: &[u8]) -> FrameTest {
     }
 }
 
-pub fn data(s: &[u8]) {
+pub fn data(printer: &impl Print, s: &[u8]) {
     let mut apdu = [0u8; 8];
     let n = text::bytes(s, 3, &mut apdu);
     let mut out = [0xAAu8; 24];
     let start = hdlc_write::put_llc(&mut out);
     let end = wire_write::put_all(&mut out, start, first(&apdu, n));
     let count = hdlc_write::put_data(&mut out, received(s, 0x13), end);
-    show(&out, count);
+    show(printer, &out, count);
 }
 
 fn received(s: &[u8], control: u8) -> Head {
@@ -50,9 +50,9 @@ fn received(s: &[u8], control: u8) -> Head {
     }
 }
 
-fn show(out: &[u8], count: usize) {
-    text::print_hex(first(out, count));
+fn show(printer: &impl Print, out: &[u8], count: usize) {
+    text::print_hex(printer, first(out, count));
     if !text::all_are(text::after(out, count), 0xAA) {
-        print(b" !");
+        print(printer, b" !");
     }
 }

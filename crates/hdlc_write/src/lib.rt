@@ -1,6 +1,8 @@
 // HDLC replies written from the start of a lent buffer; the bytes after them keep their values. Each takes the head of the
 // received frame and exchanges its addresses; it asks for room, and of a data frame for information that the length can
 // count. What the frames are stands in specs/ of the crate hdlc; proofs/ has the laws for callers.
+#![tactic(auto)]
+
 ghost use Rattle.std.specs.Prelude.{◌≡◌, [], ◌∷◌, ◌+◌, ◌≤◌, ◌<◌};
 ghost use lib.ListN.{length};
 ghost use Rattle.fcs.specs.Check.{check_of};

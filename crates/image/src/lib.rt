@@ -1,6 +1,8 @@
 // The image of a meter: every field of the struct in a fixed byte layout, behind a version byte. What is read is refused by
 // its length, its version, or a byte that no meter has; a meter that is read need not be sound. docs/IMAGE.md has the places;
 // image_write writes an image.
+#![tactic(auto)]
+
 mod check;
 mod lists;
 mod read;
@@ -26,7 +28,7 @@ pub const WRONG_VERSION: u8 = 102;
 pub const NOT_SOUND: u8 = 3;
 
 // What reading answers beside the meter, by the first test that the bytes fail.
-#[derive(Drop)]
+#[derive(Clone, Copy)]
 pub enum Status {
     Whole,
     WrongLength,
@@ -36,7 +38,7 @@ pub enum Status {
 }
 
 // What was read: a meter where the image is whole, and else a blank one.
-#[derive(Drop)]
+#[derive(Clone, Copy)]
 pub struct ImageRead {
     pub status: Status,
     pub meter: Meter,

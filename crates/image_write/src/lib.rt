@@ -1,5 +1,7 @@
 // The image of a meter, written: whatever a meter holds, sound or not, into a buffer of the image's size. The layout is that of
 // image, which reads it.
+#![tactic(auto)]
+
 mod parts;
 
 ghost use Rattle.image_write.specs.Writing.{Writes};
@@ -8,7 +10,7 @@ use image::{SIZE, VERSION};
 use meter::Meter;
 
 // What writing answers.
-#[derive(Drop)]
+#[derive(Clone, Copy)]
 pub enum Written {
     Done,
     // the buffer has another length than an image, and nothing was written

@@ -1,5 +1,7 @@
 // The line, which decides on frames: links, associations, counters, keys and titles. Its part of soundness, a new one, what
 // power-up leaves of it, and the line with zeros wherever it holds nothing; in `clients`, what it tells of a client.
+#![tactic(auto)]
+
 mod clients;
 
 ghost use Rattle.std.specs.Prelude.{◌≡◌, List, ℕ};
@@ -16,7 +18,7 @@ pub use clients::{
 use model::Counters;
 
 // How far an association has come.
-#[derive(Drop)]
+#[derive(Clone, Copy)]
 pub enum Phase {
     Idle,
     Pending,
@@ -24,7 +26,7 @@ pub enum Phase {
 }
 
 // A client of the link: its title, whether its link is up, its association and the services agreed in it.
-#[derive(Drop)]
+#[derive(Clone, Copy)]
 pub struct Party {
     pub title: [u8; 8],
     pub up: bool,
@@ -33,7 +35,7 @@ pub struct Party {
 }
 
 // A client that ciphers: its dedicated key, its challenge and the meter's, and the counters.
-#[derive(Drop)]
+#[derive(Clone, Copy)]
 pub struct CipherParty {
     pub party: Party,
     pub key: [u8; 16],
@@ -43,7 +45,7 @@ pub struct CipherParty {
 }
 
 // What decides on frames: the meter's title, the clients V and H, and the P5 flag.
-#[derive(Drop)]
+#[derive(Clone, Copy)]
 pub struct LineState {
     pub title: [u8; 8],
     pub verification: Party,

@@ -1,12 +1,14 @@
 // What GCM is given besides the text: keys made ready, nonce, associated data of an envelope and of a proof (document 01, "The
 // envelope and its counters"). No function here has a `requires`.
+#![tactic(auto)]
+
 ghost use Rattle.std.specs.Prelude.{◌≡◌};
 ghost use Rattle.material.specs.Material.{associated_data, keys_from, keys_of, «nonce» as nonceOf, proof_data};
 
 use gcm::ReadyKey;
 
 // The keys that envelopes go under, made ready: "GUK" or the dedicated key of the association, and "AK".
-#[derive(Drop)]
+#[derive(Clone, Copy)]
 pub struct ReadyKeys {
     pub key: ReadyKey,
     pub ak: [u8; 16],

@@ -2,7 +2,7 @@
 -- call, as every unsound meter does.
 use mathlib.Core.Path.{◌≡◌, refl, sym, ◌∙◌, ap}
 use mathlib.Core.Bool.{false}
-use mathlib.Core.List.{List, ◌∷◌, map, flat_map, Memᴰ, head-eq_of_cons-eq, tail-eq_of_cons-eq}
+use mathlib.Core.List.{List, [], ◌∷◌, map, flat_map, Memᴰ, head-eq_of_cons-eq, tail-eq_of_cons-eq}
 use native.Mathlib.Omega.{arith}
 use Rattle.wire.specs.Numbers.{length_field}
 use Rattle.wire.specs.Reading.{same_bytes}
@@ -43,6 +43,7 @@ unsound_answers_3 m s c r o =
 
 -- what holds of the elements of a list whose images agree
 each : {A B : Type 0} (f g : A → B) (xs : List A) → map f xs ≡ map g xs → (x : A) → Memᴰ x xs → f x ≡ g x
+each f g [] e x m = elim m [ ]
 each f g (y ∷ ys) e x (Memᴰ.head h) = ap f h ∙ head-eq_of_cons-eq e ∙ ap g (sym h)
 each f g (y ∷ ys) e x (Memᴰ.tail m) = each f g ys (tail-eq_of_cons-eq e) x m
 

@@ -2,6 +2,8 @@
 // the meter whole and hands the changed meter back beside the number of its refusal, or 0; it refuses an unsound meter by 3,
 // then by its own number, and hands a refused meter back as it was. Beside the calls: the meter with zeros wherever it holds
 // nothing; in `transfers`, what the line allows of a transfer.
+#![tactic(auto)]
+
 mod transfers;
 
 ghost use Rattle.std.specs.Prelude.{◌≡◌};
@@ -20,14 +22,14 @@ use model::{Clock, Name, Register};
 use store::{Columns, Registers};
 pub use transfers::is_allowed;
 
-#[derive(Drop)]
+#[derive(Clone, Copy)]
 pub struct Meter {
     pub line: LineState,
     pub body: BodyState,
 }
 
 // What an owner's call hands back: the number of its refusal, or 0, and the meter.
-#[derive(Drop)]
+#[derive(Clone, Copy)]
 pub struct Changed {
     pub refusal: u8,
     pub meter: Meter,

@@ -200,6 +200,8 @@ module _ (Meter : Type 0) (view : Meter → Model) where
   pub run_trace : (p : Protocol) → RunIsTrace Meter view p
   unfolding trace
   run_trace p m [] [] none_run = refl
+  run_trace p m [] (h ∷ hs) x = elim x [ ]
+  run_trace p m (c ∷ cs) [] x = elim x [ ]
   run_trace p m (c ∷ cs) (h ∷ hs) (more_run g x) =
       ap₂ ◌∷◌ (seen_is (step p c (view m)) h g) (run_trace p h.meter cs hs x ∙ ap (trace p cs) g.meter)
 

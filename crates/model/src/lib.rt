@@ -2,6 +2,8 @@
 // soundness; and two limits. There are no functions: what a meter holds and does is defined in specs/, and demand 3 is proved over it in
 // proofs/.
 
+#![tactic(auto)]
+
 // The bytes that data for H may take in one frame, and those of a full block: data_room and block_room of specs/Limits, of the longest
 // information that is sent.
 pub const DATA_ROOM: usize = 740;
@@ -9,32 +11,32 @@ pub const DATA_ROOM: usize = 740;
 pub const BLOCK_ROOM: usize = 732;
 
 // The clients of the link that cipher: "H" of document 01.
-#[derive(Drop)]
+#[derive(Clone, Copy)]
 pub enum CipherClient {
     Han,
 }
 
 // The clients of the link: "V" of document 01, and those that cipher.
-#[derive(Drop)]
+#[derive(Clone, Copy)]
 pub enum Client {
     Verification,
     Ciphering(CipherClient),
 }
 
 // A logical name: the "name" of an object or a register.
-#[derive(Drop)]
+#[derive(Clone, Copy)]
 pub struct Name {
     pub bytes: [u8; 6],
 }
 
 // A clock: year (two bytes), month, day, day of week, hour, minute, second, hundredths, deviation (two bytes), status.
-#[derive(Drop)]
+#[derive(Clone, Copy)]
 pub struct Clock {
     pub bytes: [u8; 12],
 }
 
 // A register as it is given: `readable` is its "H right".
-#[derive(Drop)]
+#[derive(Clone, Copy)]
 pub struct Register {
     pub name: Name,
     pub readable: bool,
@@ -44,14 +46,14 @@ pub struct Register {
 }
 
 // The invocation counters of a ciphering client, the "counter pair": the last one accepted from it, and the meter's own, last sent.
-#[derive(Drop)]
+#[derive(Clone, Copy)]
 pub struct Counters {
     pub accepted: u32,
     pub sent: u32,
 }
 
 // The tests of a sound state, in the order of document 01, then that of document 02, Q-4.
-#[derive(Drop)]
+#[derive(Clone, Copy)]
 pub enum SoundnessTest {
     RegisterList,
     ColumnList,

@@ -1,5 +1,7 @@
 // Lists of names, as a meter holds them: the first `n` of sixteen. Where a name stands, and the tests that an owner's lists
 // have to pass. specs/ of the crate model says what each means.
+#![tactic(auto)]
+
 ghost use Rattle.std.specs.Prelude.{◌≡◌, map, ◌≤◌, take};
 ghost use Rattle.model.specs.Names.{all_among, among, distinct, name_of, none_among, same_name, seat};
 

@@ -1,5 +1,7 @@
 // The objects of the meter: what a name means to a client, and the rows that a selection picks. specs/ says which value of
 // the model each enum stands for.
+#![tactic(auto)]
+
 use model::{Client, Name};
 
 mod select;
@@ -9,7 +11,7 @@ pub use select::{pick_rows, picking_of};
 pub use table::find;
 
 // What neither the rows nor a register has a part in.
-#[derive(Drop)]
+#[derive(Clone, Copy)]
 pub enum Plain {
     Clock,
     Time,
@@ -18,7 +20,7 @@ pub enum Plain {
 }
 
 // What an object shows as attribute 2.
-#[derive(Drop)]
+#[derive(Clone, Copy)]
 pub enum Shown {
     Of(Plain),
     Rows,
@@ -32,7 +34,7 @@ pub enum Shown {
 }
 
 // An object as it is served: its class, its attributes and methods, counted from 1, and what it shows.
-#[derive(Drop)]
+#[derive(Clone, Copy)]
 pub struct Served {
     pub class: u16,
     pub attributes: u8,
@@ -41,14 +43,14 @@ pub struct Served {
 }
 
 // What a name means to a client.
-#[derive(Drop)]
+#[derive(Clone, Copy)]
 pub enum Found {
     Known(Served),
     Unknown,
 }
 
 // A request but for its service.
-#[derive(Drop)]
+#[derive(Clone, Copy)]
 pub struct Query {
     pub client: Client,
     pub invoke: u8,
@@ -59,14 +61,14 @@ pub struct Query {
 }
 
 // The selection of a GET; its value begins at `at` and ends with the APDU.
-#[derive(Drop)]
+#[derive(Clone, Copy)]
 pub enum Selector {
     All,
     Selected { selector: u8, at: usize },
 }
 
 // The parameter of an ACTION; its value begins there and ends with the APDU.
-#[derive(Drop)]
+#[derive(Clone, Copy)]
 pub enum Argument {
     Absent,
     Present(usize),

@@ -1,7 +1,7 @@
 -- Lists that are lent: the array and the count that a meter is given stand for the list that is lent. Where the list is longer than
 -- the array, both lists have too many members, and the call refuses both alike.
 use mathlib.Core.Path.{◌≡◌, subst, ◌∙◌}
-use mathlib.Core.Bool.{false, and-false}
+use mathlib.Core.Bool.{and-false}
 use mathlib.Core.List.{List}
 use Prim.Native.Nat.{ℕ, ◌/◌, ◌<◌}
 use native.Mathlib.Omega.{arith}

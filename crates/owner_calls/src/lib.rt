@@ -2,6 +2,8 @@
 // call is made: bytes that are no whole image, then an argument that cannot be taken, by document 01's number where 01 knows the
 // fault and in its order. Then the call of that name is made on the meter in the buffer; where it is accepted, the meter that
 // comes back is written there, with zeros wherever it holds nothing. Else nothing is written.
+#![tactic(auto)]
+
 mod refusals;
 
 ghost use Rattle.owner_calls.specs.Lending.{LentOwner};

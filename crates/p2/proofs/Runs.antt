@@ -14,6 +14,8 @@ ensured m c h (owns d r e) = e.promised p2
 
 runs : (m : Meter) (cs : List Call) (hs : List (Handed Meter view)) → Runs m cs hs → Run Meter view p2 m cs hs
 runs m [] [] none = none_run
+runs m [] (h ∷ hs) x = elim x [ ]
+runs m (c ∷ cs) [] x = elim x [ ]
 runs m (c ∷ cs) (h ∷ hs) (more e r) = more_run (ensured m c h e) (runs h.meter cs hs r)
 
 pub runs_demand3 : RunsDemand3

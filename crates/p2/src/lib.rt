@@ -1,5 +1,7 @@
 // The frame call: a meter, a received frame, the keys and the challenge that are lent, and a reply room; a number, how many
 // bytes of the reply room go out, and the meter come back. It answers for every frame, every length lent and every meter.
+#![tactic(auto)]
+
 mod converse;
 mod links;
 

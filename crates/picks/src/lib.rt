@@ -1,5 +1,7 @@
 // Which rows a read of the profile picks, how long their data are, and the transfer of a long read. specs/ says which value of
 // the model each type stands for.
+#![tactic(auto)]
+
 use model::Clock;
 
 mod rows;
@@ -13,14 +15,14 @@ pub use transfers::{
 };
 
 // The rows picked, a bit for each, the lowest for the newest row; or a result code.
-#[derive(Drop)]
+#[derive(Clone, Copy)]
 pub enum Pick {
     These { which: u16 },
     Wrong(u8),
 }
 
 // By what a picking goes: none of the selectors, or one of them.
-#[derive(Drop)]
+#[derive(Clone, Copy)]
 pub enum PickingKind {
     Whole,
     Dated,
@@ -29,7 +31,7 @@ pub enum PickingKind {
 
 // The rows that are asked for: all of them; those later than one clock and not later than another; those from one place to
 // another. What its kind does not use is no part of it.
-#[derive(Drop)]
+#[derive(Clone, Copy)]
 pub struct Picking {
     pub kind: PickingKind,
     pub after: Clock,
@@ -39,7 +41,7 @@ pub struct Picking {
 }
 
 // How far a transfer has come.
-#[derive(Drop)]
+#[derive(Clone, Copy)]
 pub enum Progress {
     Idle,
     Running,
@@ -47,7 +49,7 @@ pub enum Progress {
 }
 
 // The transfer of H: while one runs, the rows that were asked for and the number of the block that went out last.
-#[derive(Drop)]
+#[derive(Clone, Copy)]
 pub struct Transfer {
     pub progress: Progress,
     pub picking: Picking,

@@ -3,3 +3,4 @@ pub mod MoveLaws
 pub mod LaneLaws
 pub mod ExchangeLaws
 pub mod WordLaws
+pub mod PairMoves

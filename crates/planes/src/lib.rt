@@ -1,5 +1,7 @@
 // Bit slicing: sixty-four bytes as eight planes, words of which word i holds bit i of every byte. What is done to the words bit by
 // bit is done to each byte. A byte's place is its lane. No function here reads memory or branches by what the bytes are.
+#![tactic(auto)]
+
 mod moves;
 
 ghost use Rattle.std.specs.Prelude.{◌≡◌, [], ◌∷◌, ℕ, ◌/◌, ◌*◌, ◌<◌};
@@ -10,7 +12,7 @@ ghost use Rattle.planes.specs.Moves.{Transposed, spread_byte};
 use moves::{by_fours, by_ones, by_twos, pair_of, thrice_more};
 
 // Eight words: the planes of 64 bytes, or 64 bytes themselves, eight in a word.
-#[derive(Drop)]
+#[derive(Clone, Copy)]
 pub struct Planes {
     pub p0: u64,
     pub p1: u64,

@@ -15,7 +15,7 @@ use Rattle.model.specs.declared.CipherClient.TheVariants.{Han}
 use Rattle.model.specs.Limits.{longest_received}
 use Rattle.model.specs.declared.SoundnessTest.TheVariants.{AssociationOnLink}
 use Rattle.model.specs.Selecting.{Selection}
-use Rattle.model.specs.State.{Association, profile, idle, running, runs, Line, Body, with_transfer, Model, with_line}
+use Rattle.model.specs.State.{Association, profile, idle, running, Line, Body, with_transfer, Model, with_line}
 use Rattle.model.specs.Soundness.{is_none, on_link, allowed, sound}
 use Rattle.model.specs.Objects.{get, Inquiry, ask, go_on, Result, granted, begun, denied, Request, block_answer, Turn, get_answer, turned}
 use Rattle.model.specs.Calls.{Lent, frame as frameCall, Outcome, Decision, answer, serve, decided, settles}
@@ -34,7 +34,7 @@ use Rattle.cosem.specs.Tags.{tag_of, tag_in, exception_bytes}
 use Rattle.cosem.specs.Requests.{name_in, service_in, requested}
 use Rattle.envelope.specs.Opening.{opens}
 use Rattle.protocol.specs.Clients.{selective_in, blocks_in}
-use Rattle.protocol.specs.Rulings.{data_while_down, dm, Ruling, says, asks, refused_malformed, decision}
+use Rattle.protocol.specs.Rulings.{data_while_down, dm, Ruling, says, refused_malformed, decision}
 use Rattle.protocol.specs.Decide.{accepted_plain, accepted_ciphered, accepted, advanced, proved, disproved, conversed, carried, secrets_of, ruled, decide, p2}
 use Rattle.protocol.specs.Outcomes.{outcome, head_in, apdu_in, MaySend, get as mayGet, replied}
 use Rattle.protocol.specs.Lazy.{Enough, request_frame, Asking}

@@ -19,10 +19,10 @@ use Rattle.model.specs.declared.Client.TheVariants.{Ciphering}
 use Rattle.model.specs.declared.CipherClient.TheVariants.{Han}
 use Rattle.model.specs.Limits.{longest_sent, text_room, data_room, block_room}
 use Rattle.model.specs.Selecting.{Selection, Picking, Described}
-use Rattle.model.specs.State.{Entry, Long, profile, Transfer, idle, running, runs, Line, Body, with_transfer, Model}
+use Rattle.model.specs.State.{Entry, Long, profile, Transfer, idle, running, Line, Body, with_transfer, Model}
 use Rattle.model.specs.Soundness.{allowed, sound}
-use Rattle.model.specs.Objects.{Inquiry, ask, go_on, Result, granted, denied, Request, rows_data, picked_by, fitting, block, is_last, long_data, Turn, turned}
-use Rattle.model.specs.Calls.{Lent, Outcome, answer, decided, kept_by, settled}
+use Rattle.model.specs.Objects.{Inquiry, ask, go_on, Result, denied, Request, rows_data, picked_by, fitting, block, is_last, long_data, Turn, turned}
+use Rattle.model.specs.Calls.{Lent, Outcome, kept_by, settled}
 use Rattle.model.specs.Archive.{rows_of}
 use Rattle.model.specs.Blocks.{block_bytes, answered_by}
 use Rattle.model.specs.ByDate.{profile_asked, read_turn, rows_result}
@@ -38,7 +38,6 @@ use Rattle.cosem.specs.declared.ServiceKind.TheVariants.{Get}
 use Rattle.cosem.specs.Requests.{get_normal, get_next, byte, optional_part, last_value, get_with, read_get, read_next, read_gets, read_service}
 use Rattle.envelope.proofs.StandsLaws.{expect_back}
 use Rattle.protocol.specs.Clients.{selective_in, blocks_in}
-use Rattle.protocol.specs.Rulings.{asks}
 use Rattle.protocol.specs.Decide.{request_of}
 use Rattle.protocol.specs.Outcomes.{outcome, replied, to_h}
 use Rattle.protocol.specs.Lazy.{Asking}

@@ -37,14 +37,13 @@ use Rattle.cosem.specs.declared.ServiceKind.TheVariants.{Get}
 use Rattle.cosem.specs.Tags.{dedicated_tag, answer_tag}
 use Rattle.cosem.specs.Requests.{name_in, requested}
 use Rattle.counters.specs.Advance.{next_counter}
-use Rattle.envelope.specs.Layout.{head, sealed_envelope}
+use Rattle.envelope.specs.Layout.{sealed_envelope}
 use Rattle.envelope.specs.Opening.{opens, opened}
 use Rattle.envelope.proofs.ShapeLaws.{longest_apdu_lem}
 use Rattle.envelope.proofs.CloseLaws.{length_envelope, envelope_size, envelope_fits}
 use Rattle.envelope.proofs.RoundTrip.{opens_closed}
 use Rattle.meter.proofs.SameSecond.{after_due, due_step, two_more, two_rows}
 use Rattle.protocol.specs.Clients.{ciphering, counters, selective_in, blocks_in, dedicated_keys}
-use Rattle.protocol.specs.Rulings.{asks}
 use Rattle.protocol.specs.Decide.{accepted, advanced, p2}
 use Rattle.protocol.specs.Outcomes.{outcome, head_in, apdu_of, replied, to_h}
 use Rattle.protocol.specs.Lazy.{request_frame, Asking, twice, both_rows, get_profile, SecondRowRead, SecondRowHappens}

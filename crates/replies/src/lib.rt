@@ -1,6 +1,8 @@
 // Whole reply frames, written from the start of the lent reply buffer; the bytes after a frame keep their values. Each takes
 // the head of the received frame and requires the reply room, and gives the frame's length. Keys, titles, counters and texts
 // are given by the caller: nothing here knows a meter.
+#![tactic(auto)]
+
 mod enclosed;
 mod plain;
 

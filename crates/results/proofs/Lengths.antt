@@ -2,7 +2,7 @@
 -- store's Lengths.
 use mathlib.Core.Path.{◌≡◌}
 use mathlib.Core.List.{List}
-use lib.ListN.{length, length-map}
+use lib.ListN.{length}
 use mir.Val.{Val}
 use denote.Laws.{Is}
 use denote.Struct.Declared.{row}
@@ -12,10 +12,10 @@ use Rattle.body.specs.declared.BodyState.{BodyState}
 use Rattle.body.specs.contracts.BodyState.{the_type as body-type}
 
 pub name_long : (n : Name) (vs : List Val) → Is (row name-type) n vs → length n.bytes ≡ 6
-name_long n vs g = simp length-map at g.1.1.0.1.0.1
+name_long n vs g = g.1.1.0.1.0.1
 
 pub device_long : (b : BodyState) (vs : List Val) → Is (row body-type) b vs → length b.device ≡ 16
-device_long b vs g = simp length-map at g.1.1.0.1.0.1
+device_long b vs g = g.1.1.0.1.0.1
 
 pub clock_long : (b : BodyState) (vs : List Val) → Is (row body-type) b vs → length b.clock.bytes ≡ 12
-clock_long b vs g = simp length-map at g.1.1.1.0.1.1.0.1.0.1
+clock_long b vs g = g.1.1.1.0.1.1.0.1.0.1

@@ -15,6 +15,9 @@ use Rattle.model.proofs.LimitFacts.{data-room}
 use Rattle.objects.specs.declared.Shown.{Shown}
 use Rattle.objects.specs.declared.Shown.TheVariants.{Of, Rows, RecordNumber, Register}
 use Rattle.objects.specs.Meanings.{shown_as}
+use Rattle.store.specs.Lists.{entries_of}
+use Rattle.body.specs.declared.BodyState.{BodyState}
+use Rattle.body.specs.View.{body_of}
 use Rattle.results.specs.declared.Data.{Data}
 use Rattle.results.specs.declared.Outcome.{Outcome}
 use Rattle.results.specs.declared.Outcome.TheVariants.{Granted, Begun, Denied}
@@ -56,28 +59,31 @@ rows_begin Rows n a b which p e = go (eqb a 2) refl e
 rows_begin RecordNumber n a b which p e = absurd (false≢true e)
 rows_begin (Register readable scaler unit value) n a b which p e = absurd (false≢true e)
 
--- data with the rows that were picked
-module _ (x : Shown) (n : Name) (a : ℕ) (b : Body) (which : ℕ) (chosen : Data) (s : Shows x a which chosen) (size : ℕ) (e : size ≡ length (data_as n b chosen)) (blocks : Bool) (d : Described) where
+-- data with the rows that were picked: too long for one frame, or such as fit
+module _ (x : Shown) (n : Name) (a : ℕ) (s : BodyState) (which : ℕ) (blocks : Bool) (d : Described) where
   abbrev shown_by : Result
-  shown_by = shown blocks (begins (shown_as n x) a d) (shown_as n x) n a b (pick_as b.store.rows (These which))
+  shown_by = shown blocks (begins (shown_as n x) a d) (shown_as n x) n a (body_of s) (pick_as (entries_of s.rows) (These which))
 
-  pub shown_long : 740 < size → (o : Outcome) → ((m : Name) (p : Picking) → o ≡ cond (blocks && runs (begins (shown_as m x) a (picking p))) (Begun which) (Denied 250))
-      → pick_as b.store.rows (These which) ≡ picked_by d b.store.rows → Comes n b shown_by o
-  shown_long h o r q =
-      let k : 740 < length (shown_data x n a b which) = omega (arith, ap length (s n b)) in
-      let y = picking_of_lem d b.store.rows _ q in
-      rw (data-long blocks (begins (shown_as n x) a d) (shown_data x n a b which) k, y.1, r n y.0) (go y.0 blocks (runs (begins (shown_as n x) a (picking y.0))) refl)
+  pub shown_long : (o : Outcome) → 740 < length (shown_data x n a (body_of s) which)
+      → ((m : Name) (p : Picking) → o ≡ cond (blocks && runs (begins (shown_as m x) a (picking p))) (Begun which) (Denied 250))
+      → pick_as (entries_of s.rows) (These which) ≡ picked_by d (entries_of s.rows) → Comes n (body_of s) shown_by o
+  unfolding body_of
+  shown_long o k r q =
+      let y = picking_of_lem d (entries_of s.rows) _ q in
+      rw (data-long blocks (begins (shown_as n x) a d) (shown_data x n a (body_of s) which) k, y.1, r n y.0) (go y.0 blocks (runs (begins (shown_as n x) a (picking y.0))) refl)
     where
       go : (p : Picking) (u v : Bool) → runs (begins (shown_as n x) a (picking p)) ≡ v
-          → Comes n b (cond (u && v) (begun (begins (shown_as n x) a (picking p)) (shown_data x n a b which)) (denied 250)) (cond (u && v) (Begun which) (Denied 250))
-      go p true true f = record { starts = begins (shown_as n x) a (picking p); means = ap (begun (begins (shown_as n x) a (picking p))) (rows_begin x n a b which p f); writable = tt }
+          → Comes n (body_of s) (cond (u && v) (begun (begins (shown_as n x) a (picking p)) (shown_data x n a (body_of s) which)) (denied 250)) (cond (u && v) (Begun which) (Denied 250))
+      go p true true f = record { starts = begins (shown_as n x) a (picking p); means = ap (begun (begins (shown_as n x) a (picking p))) (rows_begin x n a (body_of s) which p f); writable = tt }
       go p true false f = record { starts = idle; means = refl; writable = tt }
       go p false v f = record { starts = idle; means = refl; writable = tt }
 
-  pub shown_fits : size ≤ 740 → Comes n b shown_by (Granted chosen)
-  shown_fits h =
-      let k : length (shown_data x n a b which) ≤ 740 = omega (arith, ap length (s n b)) in
-      record { starts = idle; means = ap granted (s n b) ∙ sym (data-fits blocks (begins (shown_as n x) a d) (shown_data x n a b which) k); writable = rw data-room (omega arith) }
+  pub shown_fits : (chosen : Data) → Shows x a which chosen → length (data_as n (body_of s) chosen) ≤ 740 → Comes n (body_of s) shown_by (Granted chosen)
+  unfolding body_of
+  shown_fits chosen h j =
+      let e = h n (body_of s) in
+      let k : length (shown_data x n a (body_of s) which) ≤ 740 = omega (arith, ap length e) in
+      record { starts = idle; means = ap granted e ∙ sym (data-fits blocks (begins (shown_as n x) a d) (shown_data x n a (body_of s) which) k); writable = rw data-room j }
 
 -- attributes other than 1 and 2 show the scaler, as attribute 3 does
 pub shows_other : (x : Shown) (a which : ℕ) (d : Data) → (a ≡ 1 → ⊥) → (a ≡ 2 → ⊥) → Shows x 3 which d → Shows x a which d

@@ -1,6 +1,8 @@
 // The calls of the script program, a function for each verb: the fields are read to the end of the line, and then the call is
 // made. A line that cannot be read makes no call and leaves the meter as it is. The program `day` makes its owner's calls by
 // the same lines, and its frame calls by `receive`. In `session` the lines of a whole input.
+#![tactic(auto)]
+
 pub mod session;
 
 use call_tests::Finding;
@@ -16,7 +18,7 @@ use script_text::{fields, lines, lists, verbs};
 const MOST: usize = 4096;
 
 // What kind of line it is: a call on the current meter, one that makes another the current one, or a frame that is explained.
-#[derive(Drop)]
+#[derive(Clone, Copy)]
 pub enum Kind {
     Call,
     Meter,
@@ -25,7 +27,7 @@ pub enum Kind {
 
 // What a line comes to: its kind, where it can be read; the meter; the column of the first character that cannot be read, or 0; the
 // number of the refusal, or 0; how many bytes of the reply buffer are the reply; and what is told of a frame that is explained.
-#[derive(Drop)]
+#[derive(Clone, Copy)]
 pub struct Done {
     pub kind: Kind,
     pub meter: Meter,

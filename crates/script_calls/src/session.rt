@@ -7,22 +7,24 @@ use meter::Meter;
 use script_text::answer::Output;
 use script_text::lines::LONGEST;
 use script_text::{answer, lines};
+use std::io::Read;
+
+// The most bytes of one read.
+const MOST: usize = 65536;
 
 // What becomes of a line: it is answered, or what it tells of a frame is kept.
-#[derive(Drop)]
+#[derive(Clone, Copy)]
 pub enum Task {
     Answer,
     Diagnose,
 }
 
-// What goes on from one part of the input to the next: where it comes from and what it is for; the current meter; how many
-// characters of a line are held; the state of the output; whether anything was read, whether reading failed, and whether there may be
-// more. Of a diagnosis: how many lines ended; the column of the last one where it cannot be read, and the number by which its image is
-// refused, or 0; whether a line has given a meter, whether there was a frame, whether it came before any meter, and what is told of
-// the last.
-#[derive(Drop)]
+// What goes on from one part of the input to the next: what it is for; the current meter; how many characters of a line are held; the
+// state of the output; whether anything was read, whether reading failed, and whether there may be more. Of a diagnosis: how many
+// lines ended; the column of the last one where it cannot be read, and the number by which its image is refused, or 0; whether a line
+// has given a meter, whether there was a frame, whether it came before any meter, and what is told of the last.
+#[derive(Clone, Copy)]
 pub struct Session {
-    pub input: i32,
     pub task: Task,
     pub meter: Meter,
     pub held: usize,
@@ -40,11 +42,10 @@ pub struct Session {
 }
 
 // A session on a new meter whose name and titles are all zero.
-pub fn run(input: i32, task: Task) -> Session {
+pub fn run<R: Read>(input: &mut R, printer: &impl Print, task: Task) -> Session {
     let mut line = [0u8; LONGEST];
     let mut out = [0u8; answer::ROOM];
     let session = Session {
-        input,
         task,
         meter: Meter::new([0; 16], [0; 8], [0; 8], [0; 8]),
         held: 0,
@@ -60,36 +61,47 @@ pub fn run(input: i32, task: Task) -> Session {
         early: false,
         explained: crate::nothing_told(),
     };
-    all(session, &mut line, &mut out)
+    all(session, input, printer, &mut line, &mut out)
 }
 
 // Part after part until the input ends. A proved loop has to end, and nothing says that an input does: so the parts are
 // counted down from a number that no run uses up.
-fn all(session: Session, line: &mut [u8; LONGEST], out: &mut [u8; answer::ROOM]) -> Session {
+fn all<R: Read>(
+    session: Session,
+    input: &mut R,
+    printer: &impl Print,
+    line: &mut [u8; LONGEST],
+    out: &mut [u8; answer::ROOM],
+) -> Session {
     let mut next = session;
     let mut parts = u64::MAX;
     while 0 < parts && next.open {
-        next = part(next, line, out);
+        next = part(next, input, printer, line, out);
         parts -= 1;
     }
     next
 }
 
 // One read, its lines made, and the answers written before the next read.
-fn part(session: Session, line: &mut [u8; LONGEST], out: &mut [u8; answer::ROOM]) -> Session {
-    let mut input = io::large_buffer();
-    let got = libc::read(session.input, &mut input);
-    let n = io::count(got, &input);
-    if n == 0 {
-        return ended(session, got < 0, line, out);
+fn part<R: Read>(
+    session: Session,
+    input: &mut R,
+    printer: &impl Print,
+    line: &mut [u8; LONGEST],
+    out: &mut [u8; answer::ROOM],
+) -> Session {
+    let mut bytes = [0u8; MOST];
+    match input.read(&mut bytes) {
+        Ok(0) => ended(session, printer, false, line, out),
+        Ok(n) => flushed(feed(session, printer, &bytes[..n], line, out), printer, out),
+        Err(_) => ended(session, printer, true, line, out),
     }
-    let fed = feed(session, &input[..n], line, out);
-    flushed(fed, out)
 }
 
 // The end of the input: a line that is held is a line, but not where reading failed in the middle of it.
 fn ended(
     mut session: Session,
+    printer: &impl Print,
     failed: bool,
     line: &mut [u8; LONGEST],
     out: &mut [u8; answer::ROOM],
@@ -98,15 +110,15 @@ fn ended(
         session.failed = true;
         session.held = 0;
     }
-    let last = one_line(session, line, out);
-    let mut closed = flushed(last, out);
+    let last = one_line(session, printer, line, out);
+    let mut closed = flushed(last, printer, out);
     closed.open = false;
     closed
 }
 
 // What is left of the output is written; where that cannot be done, the session ends.
-fn flushed(mut session: Session, out: &[u8; answer::ROOM]) -> Session {
-    let output = answer::flush(out, session.output);
+fn flushed(mut session: Session, printer: &impl Print, out: &[u8; answer::ROOM]) -> Session {
+    let output = answer::flush(printer, out, session.output);
     session.output = output;
     if output.failed {
         session.open = false;
@@ -117,6 +129,7 @@ fn flushed(mut session: Session, out: &[u8; answer::ROOM]) -> Session {
 // The bytes of a read, line by line. What stands after the last line end is held.
 fn feed(
     session: Session,
+    printer: &impl Print,
     input: &[u8],
     line: &mut [u8; LONGEST],
     out: &mut [u8; answer::ROOM],
@@ -127,7 +140,7 @@ fn feed(
     while end < input.len() {
         let start = end + 1;
         let stop = text::end_from(input, start, b'\n');
-        next = completed(next, &input[at..end], line, out);
+        next = completed(next, printer, &input[at..end], line, out);
         at = start;
         end = stop;
     }
@@ -137,12 +150,13 @@ fn feed(
 // A line is held to its end, and made.
 fn completed(
     session: Session,
+    printer: &impl Print,
     characters: &[u8],
     line: &mut [u8; LONGEST],
     out: &mut [u8; answer::ROOM],
 ) -> Session {
     let whole = held(session, characters, line);
-    one_line(whole, line, out)
+    one_line(whole, printer, line, out)
 }
 
 // More characters of a line are held.
@@ -153,19 +167,24 @@ fn held(mut session: Session, characters: &[u8], line: &mut [u8; LONGEST]) -> Se
 }
 
 // The line that is held is made, unless it is to be skipped or the session has ended; then none is held.
-fn one_line(mut session: Session, line: &[u8; LONGEST], out: &mut [u8; answer::ROOM]) -> Session {
+fn one_line(
+    mut session: Session,
+    printer: &impl Print,
+    line: &[u8; LONGEST],
+    out: &mut [u8; answer::ROOM],
+) -> Session {
     let n = session.held;
     session.held = 0;
     if !session.open {
         return session;
     }
-    session.lines = std::num::wrapping_add_u64(session.lines, 1);
+    session.lines = session.lines.wrapping_add(1);
     if lines::is_skipped(line, n) {
         return session;
     }
     let task = session.task;
     match task {
-        Task::Answer => answered(session, text::first(line, n), n <= LONGEST, out),
+        Task::Answer => answered(session, printer, text::first(line, n), n <= LONGEST, out),
         Task::Diagnose => noted(session, text::first(line, n), n <= LONGEST),
     }
 }
@@ -173,6 +192,7 @@ fn one_line(mut session: Session, line: &[u8; LONGEST], out: &mut [u8; answer::R
 // A line is made and answered.
 fn answered(
     mut session: Session,
+    printer: &impl Print,
     line: &[u8],
     is_whole: bool,
     out: &mut [u8; answer::ROOM],
@@ -181,33 +201,39 @@ fn answered(
     let done = crate::made(session.meter, line, is_whole, &mut reply);
     let meter = done.meter;
     session.meter = meter;
-    session.output = put_done(out, session.output, done, &reply);
+    session.output = put_done(printer, out, session.output, done, &reply);
     session
 }
 
 fn put_done(
+    printer: &impl Print,
     out: &mut [u8; answer::ROOM],
     output: Output,
     done: Done,
     reply: &[u8; answer::REPLY],
 ) -> Output {
     if done.column != 0 {
-        return answer::put_unread(out, output, done.column);
+        return answer::put_unread(printer, out, output, done.column);
     }
     let kind = done.kind;
     match kind {
-        Kind::Explanation => put_explained(out, output, done.explained),
-        _ => answer::put_answer(out, output, done.refusal, done.count, reply),
+        Kind::Explanation => put_explained(printer, out, output, done.explained),
+        _ => answer::put_answer(printer, out, output, done.refusal, done.count, reply),
     }
 }
 
 // The line that tells of a frame.
-pub fn put_explained(out: &mut [u8; answer::ROOM], output: Output, explained: Explained) -> Output {
+pub fn put_explained(
+    printer: &impl Print,
+    out: &mut [u8; answer::ROOM],
+    output: Output,
+    explained: Explained,
+) -> Output {
     let finding = explained.finding;
     let place = explained.place;
     let mut text = [0u8; LONGEST_LINE];
     let n = diagnosis_write::put_line(&mut text, 0, explained.refusal, finding, place);
-    answer::put_text(out, output, text::first(&text, n))
+    answer::put_text(printer, out, output, text::first(&text, n))
 }
 
 // A line is made, and what it tells of a frame is kept. One that cannot be read, an image that is refused, and a frame before any

@@ -5,21 +5,21 @@ ghost use Rattle.std.specs.Prelude.{◌≤◌};
 use text::digit;
 
 // A place in a line, and whether all before it was read.
-#[derive(Drop)]
+#[derive(Clone, Copy)]
 pub struct Cursor {
     pub at: usize,
     pub good: bool,
 }
 
 // A number, and the cursor after it.
-#[derive(Drop)]
+#[derive(Clone, Copy)]
 pub struct Number {
     pub value: u32,
     pub cursor: Cursor,
 }
 
 // How many bytes were read, and the cursor after them.
-#[derive(Drop)]
+#[derive(Clone, Copy)]
 pub struct Count {
     pub count: usize,
     pub cursor: Cursor,

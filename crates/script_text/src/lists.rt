@@ -7,27 +7,27 @@ use model::{Name, Register};
 // The most entries of a list that a line may have.
 const MOST: usize = 40;
 
-#[derive(Drop)]
+#[derive(Clone, Copy)]
 pub struct RegisterList {
     pub items: [Register; 16],
     pub count: usize,
     pub cursor: Cursor,
 }
 
-#[derive(Drop)]
+#[derive(Clone, Copy)]
 pub struct NameList {
     pub items: [Name; 16],
     pub count: usize,
     pub cursor: Cursor,
 }
 
-#[derive(Drop)]
+#[derive(Clone, Copy)]
 struct OneRegister {
     register: Register,
     cursor: Cursor,
 }
 
-#[derive(Drop)]
+#[derive(Clone, Copy)]
 pub struct OneName {
     pub name: Name,
     pub cursor: Cursor,

@@ -2,7 +2,7 @@
 // the line is wrong behind the longest beginning that it shares with a verb.
 use crate::fields::{Cursor, good, wrong};
 
-#[derive(Drop)]
+#[derive(Clone, Copy)]
 pub enum Verb {
     New,
     Registers,
@@ -20,7 +20,7 @@ pub enum Verb {
 }
 
 // A verb, and the cursor after it; where there is none, the place of the first character with which no verb goes on.
-#[derive(Drop)]
+#[derive(Clone, Copy)]
 pub struct Spoken {
     pub verb: Verb,
     pub cursor: Cursor,

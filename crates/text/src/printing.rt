@@ -1,38 +1,40 @@
-// Printing to standard output.
+// Printing to standard output, or to what stands in its place. What cannot be written is lost.
 use crate::fields::{field, letter};
 use crate::hexadecimal::pair_of;
-use libc::STDOUT_FILENO;
+use crate::numbers::decimal;
 
-pub fn print(s: &[u8]) {
-    io::write_all(STDOUT_FILENO, s);
+pub fn print(printer: &impl Print, s: &[u8]) {
+    let _ = printer.write_all(s);
 }
 
 // A number in decimal.
-pub fn print_number(n: u64) {
-    io::print_decimal(STDOUT_FILENO, n);
+pub fn print_number(printer: &impl Print, n: u64) {
+    let mut digits = [0u8; 20];
+    let k = decimal(n, &mut digits);
+    print(printer, &digits[..k]);
 }
 
 // Bytes as two digits each, with nothing between them.
-pub fn print_hex(s: &[u8]) {
+pub fn print_hex(printer: &impl Print, s: &[u8]) {
     let mut i: usize = 0;
     while i < s.len() {
         let pair = pair_of(s[i]);
-        print(&pair);
+        print(printer, &pair);
         i += 1;
     }
 }
 
 // Yes or no.
-pub fn print_bool(b: bool) {
-    print(field(b"no|yes", if b { 1 } else { 0 }));
+pub fn print_bool(printer: &impl Print, b: bool) {
+    print(printer, field(b"no|yes", if b { 1 } else { 0 }));
 }
 
 // What stands before the outcome of a line: its name, which is field 1; a line that is empty or begins with `#` as it is.
-pub fn print_name(line: &[u8]) {
+pub fn print_name(printer: &impl Print, line: &[u8]) {
     let first = letter(line);
     if first == 0 || first == b'#' {
-        return print(line);
+        return print(printer, line);
     }
-    print(field(line, 1));
-    print(b": ");
+    print(printer, field(line, 1));
+    print(printer, b": ");
 }

@@ -7,16 +7,16 @@ use text::{bytes_8, first, print, print_hex};
 // services proposed, those agreed with a client. P: the AARE that accepts a client, by services, client and the meter's title; H:
 // the same up to its envelope, by the meter's challenge, client and the meter's title. N: the initiate response, by services. J:
 // the AARE that rejects a client; the field before the client is empty.
-pub fn line(s: &[u8], m: &[u8]) {
+pub fn line(printer: &impl Print, s: &[u8], m: &[u8]) {
     let l = text::letter(s);
     match l {
-        b'Q' => aarq(m, read_aarq(s, m)),
-        b'I' => request(m, acse::read_request(m)),
-        b'S' => agreed(s),
-        b'P' => accepted_plain(s),
-        b'H' => accepted_head(s),
-        b'N' => response(s),
-        _ => rejected(s),
+        b'Q' => aarq(printer, m, read_aarq(s, m)),
+        b'I' => request(printer, m, acse::read_request(m)),
+        b'S' => agreed(printer, s),
+        b'P' => accepted_plain(printer, s),
+        b'H' => accepted_head(printer, s),
+        b'N' => response(printer, s),
+        _ => rejected(printer, s),
     }
 }
 
@@ -24,36 +24,39 @@ fn read_aarq(s: &[u8], m: &[u8]) -> Aarq {
     acse::read_aarq(m, client(s), &bytes_8(s, 4))
 }
 
-fn aarq(m: &[u8], a: Aarq) {
+fn aarq(printer: &impl Print, m: &[u8], a: Aarq) {
     match a {
-        Aarq::Plain { services } => found(0, m, services, 3),
+        Aarq::Plain { services } => found(printer, 0, m, services, 3),
         Aarq::Ciphered {
             challenge,
             envelope,
         } => {
-            found(1, m, challenge, 8);
-            found(2, m, envelope, m.len());
+            found(printer, 1, m, challenge, 8);
+            found(printer, 2, m, envelope, m.len());
         }
-        Aarq::Departs => print(b"departs"),
+        Aarq::Departs => print(printer, b"departs"),
     }
 }
 
-fn request(m: &[u8], r: InitiateRequest) {
+fn request(printer: &impl Print, m: &[u8], r: InitiateRequest) {
     match r {
         InitiateRequest::Accepted { key, services } => {
-            found(3, m, key, 16);
-            found(4, m, services, 3);
+            found(printer, 3, m, key, 16);
+            found(printer, 4, m, services, 3);
         }
-        InitiateRequest::Departs => print(b"departs"),
+        InitiateRequest::Departs => print(printer, b"departs"),
     }
 }
 
 // What was found in a message: so many bytes from a place on, and the place.
-fn found(k: usize, m: &[u8], at: usize, n: usize) {
-    print(text::field(b"services |challenge |, envelope |key |, services ", k));
-    print_hex(first(text::after(m, at), n));
-    print(b" at ");
-    text::print_number(at as u64);
+fn found(printer: &impl Print, k: usize, m: &[u8], at: usize, n: usize) {
+    print(
+        printer,
+        text::field(b"services |challenge |, envelope |key |, services ", k),
+    );
+    print_hex(printer, first(text::after(m, at), n));
+    print(printer, b" at ");
+    text::print_number(printer, at as u64);
 }
 
 // Whether a message is an AARQ that is accepted.
@@ -72,32 +75,32 @@ pub fn is_request(m: &[u8]) -> bool {
     }
 }
 
-fn agreed(s: &[u8]) {
-    print_hex(&acse::agreed(client(s), services(s)));
+fn agreed(printer: &impl Print, s: &[u8]) {
+    print_hex(printer, &acse::agreed(client(s), services(s)));
 }
 
-fn accepted_plain(s: &[u8]) {
+fn accepted_plain(printer: &impl Print, s: &[u8]) {
     let mut out = [0u8; 128];
     let n = acse_write::put_accepted_plain(&mut out, 0, client(s), &bytes_8(s, 4), &services(s));
-    print_hex(first(&out, n));
+    print_hex(printer, first(&out, n));
 }
 
-fn accepted_head(s: &[u8]) {
+fn accepted_head(printer: &impl Print, s: &[u8]) {
     let mut out = [0u8; 128];
     let n = acse_write::put_accepted_head(&mut out, 0, client(s), &bytes_8(s, 4), &bytes_8(s, 2));
-    print_hex(first(&out, n));
+    print_hex(printer, first(&out, n));
 }
 
-fn response(s: &[u8]) {
+fn response(printer: &impl Print, s: &[u8]) {
     let mut out = [0u8; 128];
     let n = acse_write::put_initiate_response(&mut out, 0, &services(s));
-    print_hex(first(&out, n));
+    print_hex(printer, first(&out, n));
 }
 
-fn rejected(s: &[u8]) {
+fn rejected(printer: &impl Print, s: &[u8]) {
     let mut out = [0u8; 128];
     let n = acse_write::put_rejected(&mut out, 0, client(s));
-    print_hex(first(&out, n));
+    print_hex(printer, first(&out, n));
 }
 
 fn client(s: &[u8]) -> Client {

@@ -8,31 +8,31 @@ const BITS: [u8; 8] = [1, 2, 4, 8, 16, 32, 64, 128];
 
 // q, i, o: the lines Q, I and O, the last with an APDU for its frame: the places at which the message is accepted with a bit
 // changed, and for how many of the eight bits where that is not so for all.
-pub fn places(s: &[u8], m: &[u8]) {
-    print(b"accepted at");
+pub fn places(printer: &impl Print, s: &[u8], m: &[u8]) {
+    print(printer, b"accepted at");
     let mut nowhere = true;
     let mut i: usize = 0;
     while i < m.len() {
         let k = accepted_at(s, i);
-        place(i, k);
+        place(printer, i, k);
         nowhere = nowhere && k == 0;
         i += 1;
     }
     if nowhere {
-        print(b" no place");
+        print(printer, b" no place");
     }
 }
 
-fn place(i: usize, k: usize) {
+fn place(printer: &impl Print, i: usize, k: usize) {
     if k == 0 {
         return;
     }
-    print(b" ");
-    print_number(i as u64);
+    print(printer, b" ");
+    print_number(printer, i as u64);
     if k < 8 {
-        print(b"(");
-        print_number(k as u64);
-        print(b")");
+        print(printer, b"(");
+        print_number(printer, k as u64);
+        print(printer, b")");
     }
 }
 

@@ -16,28 +16,28 @@ use text::{
 //   M: of nothing: challenge and counter of a proof that is made
 //   K: of a proof: challenge, accepted counter and that of its envelope: whether it is right
 //   B has two counters after its name: whether the second lies in the window after the first
-pub fn line(s: &[u8], m: &[u8]) {
+pub fn line(printer: &impl Print, s: &[u8], m: &[u8]) {
     let l = text::letter(s);
     match l {
-        b'O' => open(s, between(m, place(s, 7), place(s, 8))),
-        b'W' => admit(s, between(m, place(s, 7), place(s, 8))),
-        b'E' => close(s, first(m, 64)),
-        b'Z' => answer(s, first(m, 16)),
-        b'M' => made(s),
-        b'K' => tested(s, m),
-        _ => window(s),
+        b'O' => open(printer, s, between(m, place(s, 7), place(s, 8))),
+        b'W' => admit(printer, s, between(m, place(s, 7), place(s, 8))),
+        b'E' => close(printer, s, first(m, 64)),
+        b'Z' => answer(printer, s, first(m, 16)),
+        b'M' => made(printer, s),
+        b'K' => tested(printer, s, m),
+        _ => window(printer, s),
     }
 }
 
-fn open(s: &[u8], apdu: &[u8]) {
+fn open(printer: &impl Print, s: &[u8], apdu: &[u8]) {
     let mut out = [0u8; LONGEST_APDU];
     match envelope::open_envelope(keys(s), title(s), byte(s, 6), apdu, &mut out) {
-        Opening::Fails => print(b"does not open"),
+        Opening::Fails => print(printer, b"does not open"),
         Opening::Opens { counter, size } => {
-            print(b"counter ");
-            print_number(counter as u64);
-            print(b", ");
-            print_hex(first(&out, size));
+            print(printer, b"counter ");
+            print_number(printer, counter as u64);
+            print(printer, b", ");
+            print_hex(printer, first(&out, size));
         }
     }
 }
@@ -51,7 +51,7 @@ pub fn is_opened(s: &[u8], apdu: &[u8]) -> bool {
     }
 }
 
-fn admit(s: &[u8], apdu: &[u8]) {
+fn admit(printer: &impl Print, s: &[u8], apdu: &[u8]) {
     let mut out = [0u8; LONGEST_APDU];
     let pair = after_counter(number(s, 9));
     let refusal = match envelope::admit_envelope(
@@ -66,20 +66,20 @@ fn admit(s: &[u8], apdu: &[u8]) {
         Admission::OutsideWindow => 7,
         _ => 0,
     };
-    print_number(refusal);
+    print_number(printer, refusal);
 }
 
-fn close(s: &[u8], plain: &[u8])
+fn close(printer: &impl Print, s: &[u8], plain: &[u8])
     requires { length plain.now ≤ 64 }
 {
     let n = plain.len();
     let mut room = [0u8; 512];
     wire_write::put_all(&mut room, start(s, n), plain);
-    enclose(s, room, number(s, 8), n);
+    enclose(printer, s, room, number(s, 8), n);
 }
 
 // The counters are taken as the meter takes them: for the proof, and then for the envelope.
-fn answer(s: &[u8], plain: &[u8])
+fn answer(printer: &impl Print, s: &[u8], plain: &[u8])
     requires { length plain.now ≤ 16 }
 {
     let proof = counters::take(Counters {
@@ -88,17 +88,17 @@ fn answer(s: &[u8], plain: &[u8])
     });
     let next = proof.counters;
     let sealing = counters::take(next);
-    prove(s, plain, proof.number, sealing.number);
+    prove(printer, s, plain, proof.number, sealing.number);
 }
 
-fn prove(s: &[u8], plain: &[u8], inner: u32, outer: u32)
+fn prove(printer: &impl Print, s: &[u8], plain: &[u8], inner: u32, outer: u32)
     requires { length plain.now ≤ 16 }
 {
     let n = plain.len() + 19;
     let mut room = [0u8; 512];
     let value = wire_write::put_all(&mut room, start(s, n), plain);
     envelope::put_proof(&mut room, value, keys(s), title(s), bytes_8(s, 10), inner);
-    enclose(s, room, outer, n);
+    enclose(printer, s, room, outer, n);
 }
 
 // Where a text of `n` bytes begins, behind the head of its envelope.
@@ -110,21 +110,21 @@ fn start(s: &[u8], n: usize) -> usize
 }
 
 // The envelope around a text of `n` bytes that stands there in the room.
-fn enclose(s: &[u8], mut room: [u8; 512], counter: u32, n: usize)
+fn enclose(printer: &impl Print, s: &[u8], mut room: [u8; 512], counter: u32, n: usize)
     requires { n ≤ 64 }
 {
     let at = place(s, 7);
     let end = envelope::close_envelope(&mut room, at, keys(s), title(s), byte(s, 6), counter, n);
-    print_hex(between(&room, at, end));
+    print_hex(printer, between(&room, at, end));
 }
 
-fn made(s: &[u8]) {
+fn made(printer: &impl Print, s: &[u8]) {
     let mut room = [0u8; 32];
     let end = envelope::put_proof(&mut room, 0, keys(s), title(s), bytes_8(s, 6), number(s, 7));
-    print_hex(first(&room, end));
+    print_hex(printer, first(&room, end));
 }
 
-fn tested(s: &[u8], proof: &[u8]) {
+fn tested(printer: &impl Print, s: &[u8], proof: &[u8]) {
     let pair = after_counter(number(s, 7));
     let is_right = envelope::is_right_proof(
         keys(s),
@@ -134,11 +134,14 @@ fn tested(s: &[u8], proof: &[u8]) {
         number(s, 8),
         proof,
     );
-    print_bool(is_right);
+    print_bool(printer, is_right);
 }
 
-fn window(s: &[u8]) {
-    print_bool(counters::is_in_window(after_counter(number(s, 2)), number(s, 3)));
+fn window(printer: &impl Print, s: &[u8]) {
+    print_bool(
+        printer,
+        counters::is_in_window(after_counter(number(s, 2)), number(s, 3)),
+    );
 }
 
 fn keys(s: &[u8]) -> ReadyKeys {

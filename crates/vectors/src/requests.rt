@@ -7,80 +7,80 @@ use wire::End;
 
 // Of an APDU: G, what it is read as by GET, and A, by ACTION; T, its tag; R, whether it is the release. Of a value: V, where it
 // ends; D, the entry descriptor that it is. Of nothing: Y, the answer to a release; X, the two exceptions.
-pub fn line(s: &[u8], m: &[u8]) {
+pub fn line(printer: &impl Print, s: &[u8], m: &[u8]) {
     let l = text::letter(s);
     match l {
-        b'G' => reading(m, cosem::read_service(ServiceKind::Get, m)),
-        b'A' => reading(m, cosem::read_action(m)),
-        b'T' => tag(cosem::tag_in(m)),
-        b'R' => print_bool(cosem::is_release(m)),
-        b'V' => value(axdr::value_end(m, 0)),
-        b'D' => entries(cosem::entries_at(m, 0)),
-        b'Y' => released(),
-        _ => exceptions(),
+        b'G' => reading(printer, m, cosem::read_service(ServiceKind::Get, m)),
+        b'A' => reading(printer, m, cosem::read_action(m)),
+        b'T' => tag(printer, cosem::tag_in(m)),
+        b'R' => print_bool(printer, cosem::is_release(m)),
+        b'V' => value(printer, axdr::value_end(m, 0)),
+        b'D' => entries(printer, cosem::entries_at(m, 0)),
+        b'Y' => released(printer),
+        _ => exceptions(printer),
     }
 }
 
-fn reading(apdu: &[u8], r: Reading) {
+fn reading(printer: &impl Print, apdu: &[u8], r: Reading) {
     match r {
-        Reading::Asks(q) => asked(apdu, q),
-        Reading::GoesOn { invoke, number } => goes_on(invoke, number),
-        Reading::Malformed => print(b"malformed"),
+        Reading::Asks(q) => asked(printer, apdu, q),
+        Reading::GoesOn { invoke, number } => goes_on(printer, invoke, number),
+        Reading::Malformed => print(printer, b"malformed"),
     }
 }
 
 // Invoke byte, and the number of the block received last.
-fn goes_on(invoke: u8, number: u32) {
-    print_hex(&[invoke]);
-    print(b", after block ");
-    print_number(number as u64);
+fn goes_on(printer: &impl Print, invoke: u8, number: u32) {
+    print_hex(printer, &[invoke]);
+    print(printer, b", after block ");
+    print_number(printer, number as u64);
 }
 
 // Invoke byte, class and name, and what is wanted.
-fn asked(apdu: &[u8], q: Asked) {
-    print_hex(&[q.invoke]);
-    spaced(&[(q.class / 256) as u8, (q.class % 256) as u8]);
+fn asked(printer: &impl Print, apdu: &[u8], q: Asked) {
+    print_hex(printer, &[q.invoke]);
+    spaced(printer, &[(q.class / 256) as u8, (q.class % 256) as u8]);
     let name = cosem::name_in(apdu);
     let b = name.bytes;
-    spaced(&b);
+    spaced(printer, &b);
     let w = q.wanted;
-    wanted(w);
+    wanted(printer, w);
 }
 
-fn wanted(w: Wanted) {
+fn wanted(printer: &impl Print, w: Wanted) {
     match w {
-        Wanted::Read { attribute } => named(0, attribute),
+        Wanted::Read { attribute } => named(printer, 0, attribute),
         Wanted::ReadSelected {
             attribute,
             selector,
             at,
         } => {
-            named(0, attribute);
-            named(2, selector);
-            value_at(at);
+            named(printer, 0, attribute);
+            named(printer, 2, selector);
+            value_at(printer, at);
         }
-        Wanted::Invoke { method } => named(1, method),
+        Wanted::Invoke { method } => named(printer, 1, method),
         Wanted::InvokeWith { method, at } => {
-            named(1, method);
-            value_at(at);
+            named(printer, 1, method);
+            value_at(printer, at);
         }
     }
 }
 
 // A byte after its word.
-fn named(k: usize, b: u8) {
-    print(field(b", attribute|, method|, selector", k));
-    spaced(&[b]);
+fn named(printer: &impl Print, k: usize, b: u8) {
+    print(printer, field(b", attribute|, method|, selector", k));
+    spaced(printer, &[b]);
 }
 
-fn spaced(s: &[u8]) {
-    print(b" ");
-    print_hex(s);
+fn spaced(printer: &impl Print, s: &[u8]) {
+    print(printer, b" ");
+    print_hex(printer, s);
 }
 
-fn value_at(at: usize) {
-    print(b", value at ");
-    print_number(at as u64);
+fn value_at(printer: &impl Print, at: usize) {
+    print(printer, b", value at ");
+    print_number(printer, at as u64);
 }
 
 // The place of a service's word among those of its cover.
@@ -94,7 +94,7 @@ fn service(k: ServiceKind) -> usize
     }
 }
 
-fn tag(t: Tag) {
+fn tag(printer: &impl Print, t: Tag) {
     let k = match t {
         Tag::Aarq => 0,
         Tag::Rlrq => 1,
@@ -103,21 +103,24 @@ fn tag(t: Tag) {
         Tag::DedicatedRequest(k) => 6 + service(k),
         Tag::Unknown => 9,
     };
-    print(field(
-        b"AARQ|RLRQ|GET|SET|ACTION|glo ACTION|ded GET|ded SET|ded ACTION|unknown",
-        k,
-    ));
+    print(
+        printer,
+        field(
+            b"AARQ|RLRQ|GET|SET|ACTION|glo ACTION|ded GET|ded SET|ded ACTION|unknown",
+            k,
+        ),
+    );
 }
 
-fn value(end: End) {
+fn value(printer: &impl Print, end: End) {
     let End::At(e) = end else {
-        return print(b"none");
+        return print(printer, b"none");
     };
-    print(b"ends at ");
-    print_number(e as u64);
+    print(printer, b"ends at ");
+    print_number(printer, e as u64);
 }
 
-fn entries(e: Entries) {
+fn entries(printer: &impl Print, e: Entries) {
     let Entries::Described {
         from,
         to,
@@ -125,29 +128,29 @@ fn entries(e: Entries) {
         to_column,
     } = e
     else {
-        return print(b"none");
+        return print(printer, b"none");
     };
-    print(b"rows ");
-    span(from, to);
-    print(b", columns ");
-    span(from_column, to_column);
+    print(printer, b"rows ");
+    span(printer, from, to);
+    print(printer, b", columns ");
+    span(printer, from_column, to_column);
 }
 
-fn span(from: u32, to: u32) {
-    print_number(from as u64);
-    print(b" to ");
-    print_number(to as u64);
+fn span(printer: &impl Print, from: u32, to: u32) {
+    print_number(printer, from as u64);
+    print(printer, b" to ");
+    print_number(printer, to as u64);
 }
 
-fn released() {
+fn released(printer: &impl Print) {
     let mut out = [0u8; 5];
     cosem::put_release(&mut out, 0);
-    print_hex(&out);
+    print_hex(printer, &out);
 }
 
-fn exceptions() {
+fn exceptions(printer: &impl Print) {
     let mut out = [0u8; 6];
     let next = cosem::put_exception(&mut out, 0, Exception::ServiceNotAllowed);
     cosem::put_exception(&mut out, next, Exception::ServiceUnknown);
-    print_hex(&out);
+    print_hex(printer, &out);
 }

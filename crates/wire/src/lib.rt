@@ -1,6 +1,8 @@
 // Bytes in lent slices, read: an answer for every slice and every position. Numbers stand high byte first unless the name says
 // otherwise, and a length in the shortest form of one to three bytes. specs/ says what reading means, and what a writer leaves,
 // of which wire_write has the functions; proofs/ has the laws for callers.
+#![tactic(auto)]
+
 mod read;
 
 pub use read::{
@@ -9,14 +11,14 @@ pub use read::{
 };
 
 // A number that was read, with the position after it; or none, where the bytes end too early or are not of the form asked.
-#[derive(Drop)]
+#[derive(Clone, Copy)]
 pub enum Field {
     Found { value: u32, next: usize },
     Missing,
 }
 
 // The position after what was asked for; or none, where it does not stand there.
-#[derive(Drop)]
+#[derive(Clone, Copy)]
 pub enum End {
     At(usize),
     Bad,

@@ -1,6 +1,8 @@
 // Bytes written into lent slices. A writer puts its bytes from `at` on, leaves every other byte as it was, and gives the place
 // after them; it requires room for its bytes, and nothing else but a length that two bytes can hold. What writing means stands
 // in specs/ of the crate wire; proofs/ has the laws for callers.
+#![tactic(auto)]
+
 ghost use Rattle.std.specs.Prelude.{◌≡◌, [], ◌∷◌, ◌+◌, ◌≤◌, drop, length, take};
 ghost use Rattle.wire.specs.Wrote.{Wrote, WroteArray};
 ghost use Rattle.wire.specs.Numbers.{high_first, low_first, length_field};

@@ -1,0 +1,17 @@
+-- `cosem::request::read_get` meets its contract.
+use Rattle.std.proofs.Common.{sym}
+use Rattle.cosem.specs.Requests.{read_get}
+use Rattle.cosem.proofs.request.read_get.Goals as goal
+
+pub returns-in-Absent : goal.returns-in-Absent
+unfolding read_get
+returns-in-Absent c = rw (sym c.optional_part-part.ensures, c.in-Absent.is, sym c.byte_of-attribute.ensures) c.asks.ensures
+
+pub returns-in-Present : goal.returns-in-Present
+unfolding read_get
+returns-in-Present c =
+    rw (sym c.optional_part-part.ensures, c.in-Present.is, sym c.byte_of-attribute.ensures, sym c.byte_of-selector.ensures) c.asks_with.ensures
+
+pub returns-in-Wrong : goal.returns-in-Wrong
+unfolding read_get
+returns-in-Wrong c = rw (sym c.optional_part-part.ensures, c.in-Wrong.is)

@@ -1,0 +1,7 @@
+-- The tag of the empty text.
+use Rattle.gcm.specs.Gcm.{gmac}
+use Rattle.gcm.proofs.gmac.Goals as goal
+
+pub returns : goal.returns
+unfolding gmac
+returns c = simp (c.tag_under.ensures, c.schedule_of-w.ensures)

@@ -1,0 +1,9 @@
+-- `hdlc_write::put_head` meets its contract: its writes join.
+use Rattle.wire_write.proofs.WroteLaws.{then}
+use Rattle.hdlc.specs.Layout.{head_bytes}
+use Rattle.hdlc_write.proofs.put_head.Goals as goal
+
+pub returns : goal.returns
+unfolding head_bytes
+returns c =
+    then (then (then (then c.put-format.ensures c.put_u16-destination.ensures) c.put-source.ensures) c.put-place.ensures) c.put.ensures

@@ -1,0 +1,7 @@
+-- `meter::Meter::new` meets its contract.
+use Rattle.meter.proofs.CanonicalLaws.{fresh}
+use Rattle.meter.proofs.Meter.new.Goals as goal
+
+pub returns : goal.returns
+returns c =
+    fresh _ _ _ _ c.new_line-l.ensures c.new_body-b.ensures c.cleared.ensures

@@ -1,0 +1,19 @@
+-- `replies::plain::send_release` meets its contract: the APDU behind LLC, and the frame around it.
+use Rattle.model.proofs.LimitFacts.{text_room_lem}
+use borrow.Author.Rules.{rules}
+use Rattle.model.proofs.LimitFacts.{reply_room_lem}
+use Rattle.hdlc_write.proofs.ReplyLaws.{apdu_framed}
+use Rattle.replies.proofs.plain.send_release.Goals as goal
+
+pub returns : goal.returns
+returns c =
+    apdu_framed c.args.head c.put_llc-at.ensures c.put_release-end.ensures c.put_data.ensures
+
+pub put_llc-at-requires : goal.put_llc-at-requires
+put_llc-at-requires c = let room = reply_room_lem in let text = text_room_lem in search rules
+
+pub put_release-end-requires : goal.put_release-end-requires
+put_release-end-requires c = let room = reply_room_lem in let text = text_room_lem in search rules
+
+pub put_data-requires : goal.put_data-requires
+put_data-requires c = let room = reply_room_lem in let text = text_room_lem in search rules
