@@ -247,8 +247,7 @@ fn greater(line: Line) -> Line {
 
 const HEAD: &str = "// The acts of the night, with what the owner lends and the home display has. Made by tests/cases/make from tests/cases/day.txt;
 // main.rt says what the marks mean.
-use crate::Scene;
-use crate::walk;
+use crate::{Scene, walk};
 ";
 
 /// A constant of bytes, broken as the layout of a source file wants it.
@@ -265,7 +264,7 @@ fn constant(name: &str, bytes: &[u8]) -> String {
 fn function(name: &str, lines: &[String]) -> String {
     let text: String = lines.iter().map(|line| format!("        {}\\n\\\n", escaped(line))).collect();
     format!(
-        "\npub fn {name}(s: Scene) -> Scene {{\n    walk(\n        s,\n        b\"\\\n{text}        \",\n    )\n}}\n"
+        "\npub fn {name}(printer: &impl Print, s: Scene) -> Scene {{\n    walk(\n        printer,\n        s,\n        b\"\\\n{text}        \",\n    )\n}}\n"
     )
 }
 
