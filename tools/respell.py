@@ -31,7 +31,7 @@ def declared(text, proof):
     """Names that the file declares: definitions, lemmas, fields and constructors, in order."""
     out = []
     for line in text.split("\n"):
-        if re.match(r" *(?:abbrev )?(?:pub )?(?:record|data|use|let|in|module|where)\b", line):
+        if re.match(r" *(?:abbrev )?(?:pub )?(?:record|data|use|let|in|module|where)(?=\s|$)", line):
             continue
         m = INNER.match(line) if line[:1].isspace() else HEAD.match(line)
         if m and not (proof and (" tie." in line or "statement M" in line)):
@@ -108,7 +108,7 @@ def turn_rt(text, names):
     out = []
     # a word in snake case is one of the source's own
     names = {k: v for k, v in names.items() if "-" in k or k != k.lower()}
-    for part in re.split(r"(//[^\n]*|b?\"(?:[^\"\\]|\\.)*\"|b?'(?:[^'\\\n]|\\.)')", text):
+    for part in re.split(r"(?s)(//[^\n]*|b?\"(?:[^\"\\]|\\.)*\"|b?'(?:[^'\\\n]|\\.)')", text):
         if part.startswith("//"):
             part = in_words(part, names)
         elif not re.match(r"b?[\"']", part):

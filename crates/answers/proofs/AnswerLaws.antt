@@ -9,7 +9,7 @@ use Rattle.model.specs.Limits.{longest_sent, data_room}
 use Rattle.model.specs.State.{Transfer, Body}
 use Rattle.model.specs.Selecting.{Selection}
 use Rattle.model.specs.Objects.{Meaning, known, unknown, Parameter, get, action, Request, granted, begun, denied, attribute_read, method_invoked, block_answer, after_read, after_action, Turn, answered}
-use Rattle.model.proofs.LimitFacts.{data-room, text_room_lem}
+use Rattle.model.proofs.LimitFacts.{data_room_lem, text_room_lem}
 use Rattle.model.proofs.BlockLaws.{answer_fits}
 use Rattle.body.specs.declared.BodyState.{BodyState}
 use Rattle.body.specs.Change.{changed_by}
@@ -32,7 +32,7 @@ module _ (q : Request) (x : BodyState) (w : Meaning) {l m : List ℕ} {at : ℕ}
     pub read_granted : (d : List ℕ) → granted d ≡ attribute_read q a s (body_of x) w → length d ≤ data_room longest_sent → r.refusal ≡ 0
         → Wrote l at m r.next (0xC4 ∷ 0x01 ∷ q.invoke ∷ 0x00 ∷ d) → body_of (changed_by r.change x) ≡ after_read q.client (granted d) (body_of x) → Turns (answered q (body_of x) w (get a s)) x l at m r
     read_granted d g h n o e =
-        rw (sym g) (record { refusal = n; wrote = o; short = omega (arith, o.next, data-room, text_room_lem); body = e })
+        rw (sym g) (record { refusal = n; wrote = o; short = omega (arith, o.next, data_room_lem, text_room_lem); body = e })
 
     pub read_begun : (t : Transfer) (d : List ℕ) → begun t d ≡ attribute_read q a s (body_of x) w → r.refusal ≡ 0
         → Wrote l at m r.next (block_answer q.invoke 1 d) → body_of (changed_by r.change x) ≡ after_read q.client (begun t d) (body_of x) → Turns (answered q (body_of x) w (get a s)) x l at m r

@@ -57,7 +57,7 @@ use Rattle.call_tests.specs.declared.Finding.{Finding}
 use Rattle.call_tests.specs.declared.Finding.TheVariants.{Fails, Passes}
 use Rattle.call_tests.specs.Tests.{lent_tests, line_tests, body_tests, on_apdu, on_aarq, on_opened, on_envelope, on_shaped, malformed_in, on_answer, is_misshapen, forged, is_malformed, on_asks, on_inquiry, on_request, aarq_accepted, line_fails, is_nothing, on_object, is_served, is_shaped, belongs, selection_shaped, bad_entries, bad_range, on_selector, too_long, answers_too_long, is_ended, is_idle, on_running, inquiry_fails, call_fails, first_failing, found}
 use Rattle.call_tests.specs.Road.{fault, link_up_finds, link_down_finds, selector_wrong, code_test, result_finds, service_finds, body_finds, number_finds, asked_finds, answer_finds, opened_finds, shape_finds, envelope_finds, challenge_finds, request_finds, aarq_finds, release_finds, by_tag_finds, tested_finds, carried_finds, heard_finds, or_else, lent_finds, state_finds, unsound, rows_finds, body_state_finds, line_state_finds, transfer_finds, road_finds}
-use Rattle.call_tests.proofs.TestLaws.{in-stretches, else_cond, else_three, else_none}
+use Rattle.call_tests.proofs.TestLaws.{in_stretches, else_cond, else_three, else_none}
 
 -- a test of the body fails
 abbrev body_fault : BodyTest → Finding
@@ -555,11 +555,11 @@ module _ (m : Model) (a : Lent) where
       let g = call_fails m a in
       let line = map OfLine line_tests in
       let body = map OfBody body_tests in
-      in-stretches g (map OfLent lent_tests) (map OfState soundness_tests ++ (map OfFrame frame_tests ++ (line ++ body)))
+      in_stretches g (map OfLent lent_tests) (map OfState soundness_tests ++ (map OfFrame frame_tests ++ (line ++ body)))
       ∙ ap (or_else (first_failing g (map OfLent lent_tests)))
-      (in-stretches g (map OfState soundness_tests) (map OfFrame frame_tests ++ (line ++ body))
+      (in_stretches g (map OfState soundness_tests) (map OfFrame frame_tests ++ (line ++ body))
       ∙ ap (or_else (first_failing g (map OfState soundness_tests)))
-      (in-stretches g (map OfFrame frame_tests) (line ++ body)
-      ∙ ap (or_else (first_failing g (map OfFrame frame_tests))) (in-stretches g line body ∙ rest_is)
+      (in_stretches g (map OfFrame frame_tests) (line ++ body)
+      ∙ ap (or_else (first_failing g (map OfFrame frame_tests))) (in_stretches g line body ∙ rest_is)
       ∙ ap (λ v. or_else v (rest (read_frame a.received))) (frame_stretch frame_tests)
       ∙ heard_road (read_frame a.received) (read_told a.received)))

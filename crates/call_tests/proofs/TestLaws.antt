@@ -38,10 +38,10 @@ else_none (Fails t) = refl
 else_none Passes = refl
 
 -- one stretch after another
-pub in-stretches : (g : CallTest → Bool) (xs ys : List CallTest) → first_failing g (xs ++ ys) ≡ or_else (first_failing g xs) (first_failing g ys)
+pub in_stretches : (g : CallTest → Bool) (xs ys : List CallTest) → first_failing g (xs ++ ys) ≡ or_else (first_failing g xs) (first_failing g ys)
 unfolding first_failing
-in-stretches g [] ys = refl
-in-stretches g (x ∷ xs) ys = ap (λ r. cond (g x) (Fails x) r) (in-stretches g xs ys) ∙ sym (else_cond (g x) x (first_failing g xs) (first_failing g ys))
+in_stretches g [] ys = refl
+in_stretches g (x ∷ xs) ys = ap (λ r. cond (g x) (Fails x) r) (in_stretches g xs ys) ∙ sym (else_cond (g x) x (first_failing g xs) (first_failing g ys))
 
 module _ (m : Model) (a : Lent) where
   fails_first : (t : CallTest) (ts : List CallTest) → call_fails m a t ≡ true → first_failing (call_fails m a) (t ∷ ts) ≡ Fails t

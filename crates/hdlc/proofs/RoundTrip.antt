@@ -195,9 +195,9 @@ module _ (r : Side) (s : ℕ) (a : List ℕ) (od : r.own % 2 ≡ 1) (os : s % 2 
   back = let n = length_information in read_back r r.own s ui (r.llc ++ a) od os (omega arith)
 
   -- it passes every test
-  pub data-passes : AllPass r (data_to r s a) frame_tests
+  pub data_passes : AllPass r (data_to r s a) frame_tests
   unfolding greatest_length
-  data-passes =
+  data_passes =
       let f = data_to r s a in
       let b = back in
       let n = length_information in
@@ -239,7 +239,7 @@ module _ (c : Client) (h : Head) (to : h.source ≡ address_of c) (from : h.dest
   pub reply_passes : (a : List ℕ) → 0 < length a → 3 + length a ≤ longest_sent → first_failing (client_side c) frame_tests (apdu_frame h a) ≡ Passed
   unfolding longest_sent
   reply_passes a some fits =
-      rw (to, from) (none_fails (client_side c) (data_to (client_side c) meter_address a) (data-passes (client_side c) meter_address a (odd_address c) refl refl refl some fits (omega arith)))
+      rw (to, from) (none_fails (client_side c) (data_to (client_side c) meter_address a) (data_passes (client_side c) meter_address a (odd_address c) refl refl refl some fits (omega arith)))
 
 -- A client's request at the meter: it is read as its APDU, and that APDU stands between the places that are told.
 module _ (c : Client) (a : List ℕ) (some : 0 < length a) (fits : 3 + length a ≤ longest_received) where
@@ -256,7 +256,7 @@ module _ (c : Client) (a : List ℕ) (some : 0 < length a) (fits : 3 + length a 
       let f = data_to meter_side (address_of c) a in
       let b = request_back in
       let source : sender_of (byte f 4) ≡ Known c = ap (λ (h : Head). sender_of h.source) b.head ∙ known_address c in
-      let passed = none_fails meter_side f (data-passes meter_side (address_of c) a refl (odd_address c) (ap is_known (known_address c)) refl some fits (omega arith)) in
+      let passed = none_fails meter_side f (data_passes meter_side (address_of c) a refl (odd_address c) (ap is_known (known_address c)) refl some fits (omega arith)) in
       let n : length f - 3 ≡ 11 + length a = omega (arith, request_length) in
       ap₂ (judged_frame f) source passed
       ∙ accepted_apdu f c (ap (λ (h : Head). h.control) b.head)

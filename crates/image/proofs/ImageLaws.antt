@@ -52,13 +52,13 @@ pub no_meter : (s : List ℕ) → (length s ≡ image_size → ⊥) → meter_in
 unfolding meter_in
 no_meter s h = rw (ne_eqb (length s) image_size h)
 
-pub in-meter : (s : List ℕ) → length s ≡ image_size → meter_in s ≡ meter_of s
+pub in_meter : (s : List ℕ) → length s ≡ image_size → meter_in s ≡ meter_of s
 unfolding meter_in
-in-meter s h = rw (eq-eqb (length s) image_size h)
+in_meter s h = rw (eq-eqb (length s) image_size h)
 
 pub meter_there : (s : List ℕ) {m : Meter} → length s ≡ image_size → Got meter_part s 1 m → m ≡ meter_in s
 unfolding meter_of
-meter_there s h g = g.is ∙ sym (in-meter s h)
+meter_there s h g = g.is ∙ sym (in_meter s h)
 
 pub refused_read : (s : List ℕ) (t : Status) {r : ImageRead} → status_of s ≡ t → meter_by t s ≡ blank_meter → (r.status ≡ t) × (r.meter ≡ blank_meter) → r ≡ read_image s
 refused_read s t e b q =
@@ -100,7 +100,7 @@ passed s e = go (eqb (length s) image_size) (eqb (get_or s 0 0) version) (meter_
 -- a whole image is read
 pub whole_read : (s : List ℕ) {m : Meter} → status_of s ≡ Whole → m ≡ meter_in s → record { status = Whole; meter = m } ≡ read_image s
 whole_read s e g =
-    ap (λ (x : Meter). record { status = Whole; meter = x }) (g ∙ in-meter s (passed s e).long) ∙ read_by s Whole e
+    ap (λ (x : Meter). record { status = Whole; meter = x }) (g ∙ in_meter s (passed s e).long) ∙ read_by s Whole e
 
 -- What was read is written: every image that is read comes back, byte for byte.
 pub written_back : WrittenBack

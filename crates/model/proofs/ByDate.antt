@@ -19,7 +19,7 @@ use Rattle.model.specs.Selecting.{Selection, all, selected, Picking, whole, date
 use Rattle.model.specs.State.{Entry, profile, running, Body}
 use Rattle.model.specs.Objects.{ask, granted, begun, denied, rows_within, rows_data, attribute_data, these, picked, fitting, attribute_read, turned}
 use Rattle.model.specs.ByDate.{RangesDescribed, NoOtherRange, Kept, done, taken, left, KeptWithin, profile_asked, profile_request, read_turn, rows_result, RangeReads, NoneInRange, SameAnswer, AllInRange, BothKept, OtherShape, BadRange, OtherSelector, NotAgreed}
-use Rattle.model.proofs.LimitFacts.{data-room}
+use Rattle.model.proofs.LimitFacts.{data_room_lem}
 use Rattle.model.proofs.ListLaws.{both}
 
 -- Descriptors.
@@ -123,7 +123,7 @@ unfolding rows_data length_field flat_map fitting
 none_in_range blocks i from to b f t g e =
     range_turned blocks i from to b f t g
     ∙ ap (λ (rs : List Entry). read_turn i (rows_result blocks (dated from to) rs) b) (none_within from to 0 b.store.rows e)
-    ∙ rw (data-room)
+    ∙ rw (data_room_lem)
 
 -- a read of all rows
 pub whole_turned : (blocks : Bool) (i : ℕ) (b : Body) → turned (ask (profile_request blocks i all)) b ≡ read_turn i (rows_result blocks whole b.store.rows) b

@@ -22,7 +22,7 @@ use Rattle.model.specs.Soundness.{allowed}
 use Rattle.model.specs.Calls.{Call, Outcome, serve, Protocol, decided, kept_by, settles, act, step}
 use Rattle.model.specs.Blocks.{block_bytes, FirstBlock, NextBlock, AllButLastFull, Fetches, last, more, between, JoinedAreTheData, Measured, NeverTooLong, answered_by, LeftOfTransfer, stopped, unmoved, moved, began, ThreeBlocks, SixteenColumns}
 use Rattle.model.specs.ByDate.{read_turn}
-use Rattle.model.proofs.LimitFacts.{data-room, block_room_lem}
+use Rattle.model.proofs.LimitFacts.{data_room_lem, block_room_lem}
 use Rattle.model.proofs.ListLaws.{both, both_true, by_test}
 use Rattle.model.proofs.BlockLaws.{answer_bytes, bytes_only, part, parts, block_part, blocks_join, block_full}
 use Rattle.model.proofs.TransferLaws.{to_come, next_rest, Begins, first_rest, goes_on_lem}
@@ -195,7 +195,7 @@ picked_short (dated from to) rs = refl
 
 small_fits : (blocks : Bool) (t : Transfer) (d : List ℕ) → length d ≤ 18 → too_long (fitting blocks t d) ≡ false
 unfolding fitting
-small_fits blocks t d h = rw (le-leb (length d) (data_room longest_sent) (omega (arith, data-room)))
+small_fits blocks t d h = rw (le-leb (length d) (data_room longest_sent) (omega (arith, data_room_lem)))
 
 running_fits : (blocks : Bool) (t : Transfer) (d : List ℕ) → blocks ≡ true → runs t ≡ true → too_long (fitting blocks t d) ≡ false
 unfolding fitting
@@ -291,7 +291,7 @@ length_rows i (r ∷ rs) t n =
 module _ (b : Body) (d : List ℕ) (same : rows_data b.store.rows ≡ d) (long : length d ≡ 1487) where
   whole_begins : fitting true (running (profile whole) 1) d ≡ begun (running (profile whole) 1) d
   unfolding fitting
-  whole_begins = rw (long, data-room)
+  whole_begins = rw (long, data_room_lem)
 
   one_more : is_last 1 d ≡ false
   unfolding is_last

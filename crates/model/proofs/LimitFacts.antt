@@ -18,9 +18,9 @@ pub text_room_lem : text_room longest_sent ≡ 744
 unfolding text_room apdu_room longest_sent greatest_text envelope_length length_field
 text_room_lem = refl
 
-pub data-room : data_room longest_sent ≡ 740
+pub data_room_lem : data_room longest_sent ≡ 740
 unfolding data_room text_room apdu_room longest_sent greatest_text envelope_length length_field
-data-room = refl
+data_room_lem = refl
 
 pub block_room_lem : block_room longest_sent ≡ 732
 unfolding block_room greatest_block block_length text_room apdu_room longest_sent greatest_text envelope_length length_field
@@ -48,7 +48,7 @@ named_lengths =
       received = refl;
       proposed = least_size_lem;
       told = told_size_lem;
-      room = data-room;
+      room = data_room_lem;
       six = refl;
       seven = refl;
       long = refl;

@@ -26,7 +26,7 @@ use Rattle.model.specs.Calls.{owner, OwnerCall, give_registers, set_columns, own
 use Rattle.model.specs.Lengths.{rows_of_cells}
 use Rattle.model.specs.ByDate.{read_turn}
 use Rattle.model.specs.Blocks.{MeasuredPicking, of_all, of_numbers, of_clocks, AfterBlock, first, next, set_up, EndedFrom, PossibleAreLeft}
-use Rattle.model.proofs.LimitFacts.{data-room, block_room_lem}
+use Rattle.model.proofs.LimitFacts.{data_room_lem, block_room_lem}
 use Rattle.model.proofs.ListLaws.{both, both_true}
 use Rattle.model.proofs.SoundnessLaws.{sound_passes, sound_from}
 use Rattle.model.proofs.StaySound.{owner_sound}
@@ -111,7 +111,7 @@ ended_store =
 
 ended_goes : rows_allow ended_store (running (profile whole) 1) ≡ true
 unfolding rows_allow max_rows rows_data row_data flat_map length_field
-ended_goes = rw (data-room, block_room_lem)
+ended_goes = rw (data_room_lem, block_room_lem)
 
 -- an owner's call that is not refused
 obeys : (p : Protocol) (o : OwnerCall) (m : Model) → sound m ≡ true → own_refusal o m ≡ 0 → (step p (owner o) m).next ≡ obeyed o m

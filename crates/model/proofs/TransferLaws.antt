@@ -16,7 +16,7 @@ use Rattle.model.specs.State.{Line, Entry, Store, Long, profile, Transfer, idle,
 use Rattle.model.specs.Objects.{Content, simple, rows, record_number, register, Meaning, known, unknown, serves, Request, go_on, Result, granted, begun, denied, rows_data, attribute_data, Picked, these, wrong, picked, picked_by, takes_selector, begins, fitting, shown, attribute_read, block, is_last, picked_rows, long_data, went_out, next_turn, turned}
 use Rattle.model.specs.Soundness.{has_agreed, could_ask, allowed, good_picking, could_grant, more_comes, rows_allow}
 use Rattle.model.specs.Calls.{kept_by}
-use Rattle.model.proofs.LimitFacts.{data-room}
+use Rattle.model.proofs.LimitFacts.{data_room_lem}
 use Rattle.model.proofs.ListLaws.{both, both_true, by_test}
 use Rattle.model.proofs.BlockLaws.{part_rest, block_part}
 
@@ -62,7 +62,7 @@ goes s x k h =
 -- the data of no rows are too short for a transfer
 pub none_short : ltb (data_room longest_sent) (length (rows_data [])) ≡ false
 unfolding rows_data flat_map length_field
-none_short = rw data-room
+none_short = rw data_room_lem
 
 -- so a picking of which a transfer goes on gives rows
 pub going_rows : (p : Picking) (s : Store) → data_room longest_sent < length (long_data (profile p) s) → picked p s.rows ≡ these (picked_rows (picked p s.rows))

@@ -23,7 +23,7 @@ use Rattle.image.specs.declared.ImageRead.{ImageRead}
 use Rattle.image.specs.declared.Status.{Status}
 use Rattle.image.specs.declared.Status.TheVariants.{Whole, WrongLength, WrongVersion, NoImage}
 use Rattle.image.specs.Image.{image_size, image_of, meter_of, meter_in, meter_by, status_of, read_image, image_refusal, not_sound}
-use Rattle.image.proofs.ImageLaws.{passed as whole-image, in-meter}
+use Rattle.image.proofs.ImageLaws.{passed as whole-image, in_meter}
 use Rattle.image_write.specs.declared.Written.{Written}
 use Rattle.image_write.specs.Writing.{Writes}
 use Rattle.image_write.proofs.WritesLaws.{done}
@@ -39,7 +39,7 @@ whole m = record { status = Whole; meter = m }
 
 -- a whole image has its length, and the meter in it is read
 pub read_meter : (s : List ℕ) {m : Meter} → status_of s ≡ Whole → m ≡ meter_in s → m ≡ meter_of s
-read_meter s w e = e ∙ in-meter s (whole-image s w).long
+read_meter s w e = e ∙ in_meter s (whole-image s w).long
 
 -- what is stored in a buffer of the right length, where the one meter that holds just this is written
 written : {n : Model} {r : Meter} {s e : List ℕ} {w : Written} → Fresh n r → Writes r s e w → length s ≡ image_size → Stores n e

@@ -25,7 +25,7 @@ use Rattle.model.specs.Objects.{named, row_data, rows_data, these, entries_wrong
 use Rattle.model.specs.Calls.{Lent, frame, owner, set_period, Outcome, done, act, step}
 use Rattle.model.specs.Archive.{rows_of}
 use Rattle.model.specs.Blocks.{NextBlock, Fetches, last, more, between}
-use Rattle.model.proofs.LimitFacts.{data-room, block_room_lem}
+use Rattle.model.proofs.LimitFacts.{data_room_lem, block_room_lem}
 use Rattle.model.proofs.ByDate.{whole_described, range_described}
 use Rattle.model.proofs.Possible.{entry_descriptor, entries_described}
 use Rattle.cosem.specs.declared.ServiceKind.TheVariants.{Get}
@@ -122,7 +122,7 @@ unfolding rows_data row_data flat_map length_field
 long_length = refl
 
 long_data_lem : data_room longest_sent < length (rows_data long_rows)
-long_data_lem = rw (long_length, data-room) (lit< tt)
+long_data_lem = rw (long_length, data_room_lem) (lit< tt)
 
 -- a selection that means all its rows
 module _ (blocks : Bool) (s : Selection) (p : Picking) (means : described true s ≡ picking p) (gives : picked p long_rows ≡ these long_rows) (short : envelope_length (length (get_rows 0 s)) ≤ greatest_apdu longest_received) where
@@ -300,7 +300,7 @@ refusals_happen =
     record {
       meanwhile = number_asked true ended 1 (lit< tt) refl;
       none_runs = number_asked true idle 1 (lit< tt) (long_sound true);
-      wrong_number = number_asked true (running (profile whole) 1) 2 (lit< tt) (rw (data-room, block_room_lem));
+      wrong_number = number_asked true (running (profile whole) 1) 2 (lit< tt) (rw (data_room_lem, block_room_lem));
     }
 
 pub without_the_bit_happens : WithoutTheBitHappens

@@ -22,7 +22,7 @@ use Rattle.model.specs.Objects.{Turn, granted, row_data, rows_data, rows_within,
 use Rattle.model.specs.Calls.{Lent, settled}
 use Rattle.model.specs.Archive.{rows_of}
 use Rattle.model.specs.ByDate.{done, taken, profile_request, read_turn, rows_result}
-use Rattle.model.proofs.LimitFacts.{data-room}
+use Rattle.model.proofs.LimitFacts.{data_room_lem}
 use Rattle.model.proofs.ByDate.{rows_kept, kept_only, range_described, range_turned, both_kept}
 use Rattle.cosem.specs.declared.Reading.TheVariants.{Asks}
 use Rattle.cosem.specs.declared.ServiceKind.TheVariants.{Get}
@@ -125,7 +125,7 @@ dated_asks =
 
 dated_fits : length (rows_data (dated_row 2 ∷ dated_row 1 ∷ [])) ≤ data_room longest_sent
 unfolding rows_data row_data flat_map length_field
-dated_fits = rw data-room (lit≤ tt)
+dated_fits = rw data_room_lem (lit≤ tt)
 
 dated_agreed : selective_in (Ciphering Han) (some_line no_counters) ≡ true
 unfolding within

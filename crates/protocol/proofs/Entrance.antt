@@ -423,15 +423,15 @@ module _ (c : CipherClient) (m : Model) (e : Entrance) (link aarq proof : Lent) 
       outcome_ruled proof m₂ enough₃ second_sound
       ∙ ap (λ (r : Ruling). settles (decided p2 (decision r) m₂)) (reached ∙ carries ∙ proven c l e (secrets_of proof) (head_in proof) aarq.challenge)
 
-  let-in : LetInCiphering c m e link aarq proof
+  let_in : LetInCiphering c m e link aarq proof
   unfolding taken accepting
-  let-in =
+  let_in =
       let first = up_outcome (Ciphering c) m link s refl enough₁ enters.links in
       let second = ap (λ (o : Outcome). outcome aarq o.next) first ∙ ap (outcome aarq) first_settled ∙ aarq_outcome in
       record { first = first; second = second; third = ap (λ (o : Outcome). outcome proof o.next) second ∙ ap (outcome proof) second_settled ∙ proof_outcome }
 
 pub ciphering_let_in : CipheringLetIn
-ciphering_let_in c m e link aarq proof s eight enough₁ enough₂ enough₃ ok enters = let-in c m e link aarq proof s eight enough₁ enough₂ enough₃ ok enters
+ciphering_let_in c m e link aarq proof s eight enough₁ enough₂ enough₃ ok enters = let_in c m e link aarq proof s eight enough₁ enough₂ enough₃ ok enters
 
 -- A proof that proves nothing.
 

@@ -71,9 +71,9 @@ agreed_or_acts (enclosed_get e) text q r = inl e
 agreed_or_acts (enclosed_action e) text q r = inr (asked_kind Action text q r)
 
 -- what was agreed is in force
-in-force : {k : ServiceKind} {x : Association} → MaySend (Ciphering Han) x (DedicatedRequest k) → in_force x ≡ agreed_in x
-in-force (enclosed_get e) = refl
-in-force (enclosed_action e) = refl
+in_force_lem : {k : ServiceKind} {x : Association} → MaySend (Ciphering Han) x (DedicatedRequest k) → in_force x ≡ agreed_in x
+in_force_lem (enclosed_get e) = refl
+in_force_lem (enclosed_action e) = refl
 
 -- What is kept, on a line with H's association as it was.
 
@@ -135,7 +135,7 @@ module _ (m : Model) (s : sound m ≡ true) (l : Line) (same : of_han l ≡ of_h
   -- a request of H
   module _ {k : ServiceKind} (may : MaySend (Ciphering Han) (of_han m.line) (DedicatedRequest k)) where
     agreed_there : (service : List ℕ) → within service (agreed_in (of_han m.line)) ≡ true → has_agreed service l ≡ true
-    agreed_there service e = ap (λ (x : Association). within service (in_force x)) same ∙ ap (within service) (in-force may) ∙ e
+    agreed_there service e = ap (λ (x : Association). within service (in_force x)) same ∙ ap (within service) (in_force_lem may) ∙ e
 
     pub ask_kept : (text : List ℕ) (q : Asked) → read_service k text ≡ Asks q → Kept (turned (request_of m.line (Ciphering Han) text q) m.body).body.transfer
     unfolding turned requested

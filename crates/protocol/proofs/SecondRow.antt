@@ -24,7 +24,7 @@ use Rattle.model.specs.Selecting.{described}
 use Rattle.model.specs.Objects.{ask, Turn, granted, row_data, rows_data, attribute_data, fitting, attribute_read, get_answer, turned}
 use Rattle.model.specs.Calls.{Lent, owner, tick, Outcome, settled, captured, step}
 use Rattle.model.specs.Archive.{rows_of}
-use Rattle.model.proofs.LimitFacts.{apdu_room_lem, data-room}
+use Rattle.model.proofs.LimitFacts.{apdu_room_lem, data_room_lem}
 use Rattle.hdlc.specs.declared.Head.{Head}
 use Rattle.hdlc.specs.Layout.{ui, head_of}
 use Rattle.hdlc.specs.Addresses.{meter_address, address_of}
@@ -162,7 +162,7 @@ some_asks = record { sends = some_sends no_counters 1 (get_profile 0) (lit< tt) 
 
 some_fits : length (rows_data (both_rows new_clock (some_meter no_counters))) ≤ data_room longest_sent
 unfolding new_meter max_rows rows_data row_data flat_map length_field
-some_fits = rw data-room (lit≤ tt)
+some_fits = rw data_room_lem (lit≤ tt)
 
 pub second_row_happens : SecondRowHappens
 second_row_happens =

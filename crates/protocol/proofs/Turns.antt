@@ -17,7 +17,7 @@ use Rattle.model.specs.Limits.{longest_sent, text_room, data_room}
 use Rattle.model.specs.State.{Transfer, idle, running, ended, runs, Body}
 use Rattle.model.specs.Selecting.{Selection, described}
 use Rattle.model.specs.Objects.{Content, Meaning, known, unknown, meaning, serves, Service, get, action, Request, Inquiry, ask, go_on, Result, granted, begun, denied, Picked, these, wrong, attribute_data, takes_selector, selected_rows, begins, fitting, shown, attribute_read, method_invoked, block_answer, long_data, Turn, refusal_of, get_answer, after_read, action_answer, after_action, answered, continued, turned}
-use Rattle.model.proofs.LimitFacts.{text_room_lem, data-room}
+use Rattle.model.proofs.LimitFacts.{text_room_lem, data_room_lem}
 use Rattle.model.proofs.ListLaws.{by_test}
 use Rattle.model.proofs.BlockLaws.{answer_fits, refused_fits}
 use Rattle.cosem.specs.declared.ServiceKind.{ServiceKind}
@@ -111,7 +111,7 @@ sized_read q a s b (known o) =
     sized_shown q.blocks (begins o.content a (described selective s)) o.content q.name a b (selected_rows selective s b.store.rows))
 
 pub read_fits : (invoke : ℕ) (r : Result) → Sized r → length (get_answer invoke r) ≤ text_room longest_sent
-read_fits invoke (granted d) h = omega (arith, text_room_lem, data-room)
+read_fits invoke (granted d) h = omega (arith, text_room_lem, data_room_lem)
 read_fits invoke (begun t d) h = answer_fits invoke 1 d
 read_fits invoke (denied c) h = omega (arith, text_room_lem)
 

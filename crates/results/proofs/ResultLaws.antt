@@ -11,7 +11,7 @@ use Rattle.model.specs.declared.Name.{Name}
 use Rattle.model.specs.Selecting.{Picking, Described, picking, faulty}
 use Rattle.model.specs.State.{Entry, profile, Transfer, idle, running, runs, Body}
 use Rattle.model.specs.Objects.{Result, granted, begun, denied, name_data, rows_data, attribute_data, these, wrong, picked_by, begins, fitting, shown}
-use Rattle.model.proofs.LimitFacts.{data-room}
+use Rattle.model.proofs.LimitFacts.{data_room_lem}
 use Rattle.objects.specs.declared.Shown.{Shown}
 use Rattle.objects.specs.declared.Shown.TheVariants.{Of, Rows, RecordNumber, Register}
 use Rattle.objects.specs.Meanings.{shown_as}
@@ -26,13 +26,13 @@ use Rattle.picks.specs.Marks.{marked, pick_as}
 use Rattle.picks.specs.declared.Pick.TheVariants.{These}
 
 module _ (blocks : Bool) (t : Transfer) (d : List ℕ) where
-  data-fits : length d ≤ 740 → fitting blocks t d ≡ granted d
+  data_fits : length d ≤ 740 → fitting blocks t d ≡ granted d
   unfolding fitting
-  data-fits h = rw (data-room, le-leb (length d) 740 h)
+  data_fits h = rw (data_room_lem, le-leb (length d) 740 h)
 
-  data-long : 740 < length d → fitting blocks t d ≡ cond (blocks && runs t) (begun t d) (denied 250)
+  data_long : 740 < length d → fitting blocks t d ≡ cond (blocks && runs t) (begun t d) (denied 250)
   unfolding fitting
-  data-long h = rw (data-room, lt-leb (length d) 740 h)
+  data_long h = rw (data_room_lem, lt-leb (length d) 740 h)
 
 abbrev shown_data : Shown → Name → ℕ → Body → ℕ → List ℕ
 shown_data x n a b which = attribute_data (shown_as n x) n a (marked which b.store.rows) b
@@ -70,7 +70,7 @@ module _ (x : Shown) (n : Name) (a : ℕ) (s : BodyState) (which : ℕ) (blocks 
   unfolding body_of
   shown_long o k r q =
       let y = picking_of_lem d (entries_of s.rows) _ q in
-      rw (data-long blocks (begins (shown_as n x) a d) (shown_data x n a (body_of s) which) k, y.1, r n y.0) (go y.0 blocks (runs (begins (shown_as n x) a (picking y.0))) refl)
+      rw (data_long blocks (begins (shown_as n x) a d) (shown_data x n a (body_of s) which) k, y.1, r n y.0) (go y.0 blocks (runs (begins (shown_as n x) a (picking y.0))) refl)
     where
       go : (p : Picking) (u v : Bool) → runs (begins (shown_as n x) a (picking p)) ≡ v
           → Comes n (body_of s) (cond (u && v) (begun (begins (shown_as n x) a (picking p)) (shown_data x n a (body_of s) which)) (denied 250)) (cond (u && v) (Begun which) (Denied 250))
@@ -83,7 +83,7 @@ module _ (x : Shown) (n : Name) (a : ℕ) (s : BodyState) (which : ℕ) (blocks 
   shown_fits chosen h j =
       let e = h n (body_of s) in
       let k : length (shown_data x n a (body_of s) which) ≤ 740 = omega (arith, ap length e) in
-      record { starts = idle; means = ap granted e ∙ sym (data-fits blocks (begins (shown_as n x) a d) (shown_data x n a (body_of s) which) k); writable = rw data-room j }
+      record { starts = idle; means = ap granted e ∙ sym (data_fits blocks (begins (shown_as n x) a d) (shown_data x n a (body_of s) which) k); writable = rw data_room_lem j }
 
 -- attributes other than 1 and 2 show the scaler, as attribute 3 does
 pub shows_other : (x : Shown) (a which : ℕ) (d : Data) → (a ≡ 1 → ⊥) → (a ≡ 2 → ⊥) → Shows x 3 which d → Shows x a which d

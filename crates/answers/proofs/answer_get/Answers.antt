@@ -4,7 +4,7 @@ use native.Mathlib.Omega.{arith}
 use native.Mathlib.Nat.{mul-zero}
 use Rattle.wire_write.proofs.WroteLaws.{then}
 use Rattle.model.specs.Objects.{get, granted, begun, denied}
-use Rattle.model.proofs.LimitFacts.{data-room, text_room_lem}
+use Rattle.model.proofs.LimitFacts.{data_room_lem, text_room_lem}
 use Rattle.picks.specs.Transfers.{transfer_of}
 use Rattle.body.specs.View.{body_of}
 use Rattle.body.proofs.BodyLaws.{sound_even}
@@ -20,7 +20,7 @@ pub put_data-b-requires : goal.put_data-b-requires
 unfolding body_of
 put_data-b-requires c =
     let w = rw c.in-Granted.is at c.read_attribute-o.ensures.writable in
-    (c.requires.0, omega (arith, w, data-room, text_room_lem))
+    (c.requires.0, omega (arith, w, data_room_lem, text_room_lem))
 
 pub put_rows_block-b-requires : goal.put_rows_block-b-requires
 put_rows_block-b-requires c =
