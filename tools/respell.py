@@ -5,7 +5,7 @@ usage: respell.py [--list] [FOLDER]
 
 Names of functions, lemmas, fields and constructors of antt are in snake case: keyExpansion is key_expansion, and laid-bad is laid_bad. A name
 that begins with a capital keeps it, and the dash behind it. Functions of src/, exported names, strings, inputs and outputs stay as they are:
-only words are turned that specs/ or proofs/ declare, in .antt files, in clauses and imports of .rt files, in must-fail edits, and between
+only words are turned that specs/ or proofs/ declare, in .antt files, in clauses and imports of .rt files (and there what an import calls them), in must-fail edits, and between
 backticks in pages. Where two names would fall together, or one with a name of the library, the later one, a lemma, gets the ending _lem.
 --list prints old and new, and writes nothing.
 """
@@ -43,8 +43,8 @@ def snake(name):
     if name[0].isupper():
         head, dash, rest = name.partition("-")
         return head + dash + snake(rest) if rest else name
-    name = name.replace("-", "_")
-    return re.sub(r"(?<=[a-z0-9_'])([A-Z])(?=[a-z]|$|')", lambda m: "_" + m.group(1).lower(), name).replace("__", "_")
+    name = name.replace("getD", "get_or").replace("-", "_")
+    return re.sub(r"(?<=[a-z0-9_'])([A-Z])(?=[a-z0-9]|$|')", lambda m: "_" + m.group(1).lower(), name).replace("__", "_")
 
 
 def table(files):
@@ -146,12 +146,18 @@ def main(argv):
     older = with_turned(names, files)
     for path, text in sorted(files.items()):
         by = turn_antt if path.endswith(".antt") else turn_rt if path.endswith(".rt") else turn_edit if path.endswith(".edit") else in_backticks
-        new = by(text, older if path in pages else names)
+        new = by(text, older if path in pages else {**names, **aliases(text)})
         if new != text:
             with open(path, "w", encoding="utf-8", newline="") as it:
                 it.write(new)
             print(path)
     return 0
+
+
+def aliases(text):
+    """The names behind `as` in the file's imports, where the new spelling is not there yet."""
+    words = set(WORD.findall(text))
+    return {a: snake(a) for a in re.findall(r" as ([a-z][a-z0-9]*[A-Z]\w*)", text) if snake(a) not in words}
 
 
 def with_turned(names, files):

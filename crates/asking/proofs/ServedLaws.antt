@@ -12,7 +12,7 @@ use Rattle.model.specs.Limits.{longest_sent, text_room, envelope_length}
 use Rattle.model.specs.declared.CipherClient.{CipherClient}
 use Rattle.model.specs.declared.Client.TheVariants.{Verification, Ciphering}
 use Rattle.model.specs.State.{Line, Transfer, idle, running, ended, Body}
-use Rattle.model.specs.Objects.{Service, get, action, Inquiry, ask, go_on, meaning, Result, granted, begun, denied, refusal_of as resultNumber, attribute_read, method_invoked, Turn, continued, answered, turned}
+use Rattle.model.specs.Objects.{Service, get, action, Inquiry, ask, go_on, meaning, Result, granted, begun, denied, refusal_of as result_number, attribute_read, method_invoked, Turn, continued, answered, turned}
 use Rattle.model.specs.Calls.{Wrap}
 use Rattle.model.proofs.ListLaws.{by_test}
 use Rattle.wire_write.proofs.WroteLaws.{there}
@@ -44,7 +44,7 @@ turned_free : (q : Inquiry) (b : Body) → listed (turned q b).refusal keeping �
 unfolding turned
 turned_free (ask q) b = go q.service
   where
-    result : (x : Result) → listed (resultNumber x) keeping ≡ false
+    result : (x : Result) → listed (result_number x) keeping ≡ false
     result (granted d) = refl
     result (begun t d) = refl
     result (denied c) = refl

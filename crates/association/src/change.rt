@@ -2,7 +2,7 @@
 // and so do challenges that are answered.
 ghost use Rattle.std.specs.Prelude.{◌≡◌, []};
 ghost use Rattle.model.specs.declared.Client.TheVariants.{Verification, Ciphering};
-ghost use Rattle.model.specs.State.{none, «pending» as pendingWith, associated};
+ghost use Rattle.model.specs.State.{none, «pending» as pending_with, associated};
 ghost use Rattle.line.specs.View.{line_of};
 ghost use Rattle.protocol.specs.Clients.{associates, linked, peer, with_counters, with_peer};
 ghost use Rattle.association.specs.Ends.{Proven, Ends};
@@ -58,7 +58,7 @@ pub fn pending(
     ours: [u8; 8],
     counters: Counters,
 ) -> LineState
-    ensures { line_of result ≡ with_counters client counters (associates (Ciphering client) (pendingWith agreed key theirs ours) (line_of line)) }
+    ensures { line_of result ≡ with_counters client counters (associates (Ciphering client) (pending_with agreed key theirs ours) (line_of line)) }
 {
     let p = party_of(line, Client::Ciphering(client));
     let party = in_phase(p, Phase::Pending, agreed);

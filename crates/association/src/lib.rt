@@ -7,11 +7,11 @@ mod challenge;
 mod change;
 
 ghost use Rattle.std.specs.Prelude.{◌≡◌, List, ℕ};
-ghost use Rattle.model.specs.State.{none, «pending» as pendingWith, associated};
+ghost use Rattle.model.specs.State.{none, «pending» as pending_with, associated};
 ghost use Rattle.material.specs.Material.{keys_of};
 ghost use Rattle.line.specs.View.{line_of};
 ghost use Rattle.protocol.specs.Clients.{agreed_in, bit_agreed, blocks_in, dedicated_keys, is_unknown, lent_keys, may_ask_enclosed, may_ask_plain, peer, permitted, selective_in, service_agreed};
-ghost use Rattle.protocol.specs.Decide.{held_byP5};
+ghost use Rattle.protocol.specs.Decide.{held_by_p5};
 ghost use Rattle.association.specs.Lent.{secrets_in};
 
 pub use challenge::{is_challenge, proves_itself};
@@ -24,7 +24,7 @@ use protocol::Secrets;
 
 // Whether P5 holds the client.
 pub fn is_held_by_p5(line: LineState, client: Client) -> bool
-    ensures { result ≡ held_byP5 client (line_of line) }
+    ensures { result ≡ held_by_p5 client (line_of line) }
 {
     match client {
         Client::Verification => line.p5,
@@ -75,7 +75,7 @@ fn permitted_idle(client: Client, tag: Tag) -> bool
 
 // While pending the challenge, of a client that ciphers; and the release.
 fn permitted_pending(client: Client, tag: Tag) -> bool
-    ensures { (a k c s : List ℕ) → result ≡ permitted client (pendingWith a k c s) tag }
+    ensures { (a k c s : List ℕ) → result ≡ permitted client (pending_with a k c s) tag }
 {
     match tag {
         Tag::Aarq => false,

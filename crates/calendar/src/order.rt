@@ -1,6 +1,6 @@
 // The order of clocks: each names a moment, and the later of two has the greater number.
 ghost use Rattle.std.specs.Prelude.{◌≡◌, ◌+◌, ◌-◌, ◌*◌, ◌<◌, ◌≤◌};
-ghost use Rattle.model.specs.Clocks.{day_number, days_of_months, days_of_years, hour, minute, moment as momentOf, second};
+ghost use Rattle.model.specs.Clocks.{day_number, days_of_months, days_of_years, hour, minute, moment as moment_of, second};
 
 use crate::{february_days, wide};
 use model::Clock;
@@ -10,7 +10,7 @@ const MONTH_STARTS: [u32; 13] = [0, 31, 59, 90, 120, 151, 181, 212, 243, 273, 30
 
 // The seconds from the beginning of the year 2000 to a clock.
 pub fn moment(clock: Clock) -> u64
-    ensures { result ≡ momentOf clock }
+    ensures { result ≡ moment_of clock }
 {
     let days = day_number(clock) as u64;
     let seconds = second_of_day(clock) as u64;

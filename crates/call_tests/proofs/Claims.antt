@@ -13,7 +13,7 @@ use Rattle.model.specs.declared.SoundnessTest.{SoundnessTest}
 use Rattle.model.specs.Soundness.{passes, soundness_tests, sound}
 use Rattle.model.specs.Calls.{Lent}
 use Rattle.hdlc.specs.declared.Frame.TheVariants.{Unanswered}
-use Rattle.hdlc.specs.Tests.{first_failing as frameFailing}
+use Rattle.hdlc.specs.Tests.{first_failing as frame_failing}
 use Rattle.gf2.specs.Shift.{step as shift, steps}
 use Rattle.fcs.specs.Check.{check_of, check_from, check_byte, polynomial}
 use Rattle.hdlc.specs.Layout.{format_of, fcs_of}
@@ -152,7 +152,7 @@ unfolding road_finds state_finds sound
 sound_road m a s w = found_road m a ∙ rw (lent_passes m a w, state_passes m a 0 soundness_tests s) refl
 
 example_read : read_frame wrong_check ≡ Unanswered WrongFcs
-unfolding read_frame refused_frame frameFailing sender_of format_of fcs_of check_of check_from check_byte polynomial shift steps
+unfolding read_frame refused_frame frame_failing sender_of format_of fcs_of check_of check_from check_byte polynomial shift steps
 example_read = refl
 
 example_line : line_found (Fails (OfFrame WrongFcs)) wrong_check ≡ letters "4 wrong-FCS 6"

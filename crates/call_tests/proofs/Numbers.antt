@@ -14,7 +14,7 @@ use Rattle.model.specs.Limits.{longest_sent, reply_room}
 use Rattle.model.specs.Names.{every}
 use Rattle.model.specs.State.{Transfer, idle, running, ended, none, Line, Body, Model}
 use Rattle.model.specs.Soundness.{passes, soundness_tests, sound}
-use Rattle.model.specs.Objects.{Request, ask, go_on, Result, granted, begun, denied, refusal_of as resultRefusal, Meaning, meaning, Service, get, action, attribute_read, method_invoked, answered, next_turn, refused_turn, continued, turned}
+use Rattle.model.specs.Objects.{Request, ask, go_on, Result, granted, begun, denied, refusal_of as result_refusal, Meaning, meaning, Service, get, action, attribute_read, method_invoked, answered, next_turn, refused_turn, continued, turned}
 use Rattle.model.specs.Calls.{Lent, Outcome, lent_refusal, Wrap, refused, decided, settles, act, step}
 use Rattle.hdlc.specs.declared.Head.{Head}
 use Rattle.hdlc.specs.declared.Frame.{Frame}
@@ -41,8 +41,8 @@ use Rattle.envelope.specs.declared.Shape.TheVariants.{Misshapen, Shaped}
 use Rattle.envelope.specs.Opening.{shape_of, opened_by, Opened, fails, opens, opened}
 use Rattle.protocol.specs.declared.Secrets.{Secrets}
 use Rattle.protocol.specs.Clients.{associates, ciphering, peer, with_peer, linked, counters, agreed_in, blocks_in, lent_keys, dedicated_keys, permitted, bit_agreed, is_unknown}
-use Rattle.protocol.specs.Rulings.{Ruling, says, asks, none as noTest, ua, dm, apdu, nothing, outside_window, p5_holds_v, link_down_while_down, data_while_down, unknown_tag, tag_not_permitted, bit_not_agreed, not_the_challenge, refused_malformed, decision}
-use Rattle.protocol.specs.Decide.{held_byP5, link_up, link_down, accepted_plain, accepted_ciphered, initiated, enclosed, associating, released, asked, accepted, asked_inside, is_challenge, proves_itself, proved, disproved, challenged, answered_challenge, admitted, challenge_enclosed, request_enclosed, of_ciphering, by_tag, tested, conversed, carried, heard, secrets_of, ruled, decide, p2}
+use Rattle.protocol.specs.Rulings.{Ruling, says, asks, none as no_test, ua, dm, apdu, nothing, outside_window, p5_holds_v, link_down_while_down, data_while_down, unknown_tag, tag_not_permitted, bit_not_agreed, not_the_challenge, refused_malformed, decision}
+use Rattle.protocol.specs.Decide.{held_by_p5, link_up, link_down, accepted_plain, accepted_ciphered, initiated, enclosed, associating, released, asked, accepted, asked_inside, is_challenge, proves_itself, proved, disproved, challenged, answered_challenge, admitted, challenge_enclosed, request_enclosed, of_ciphering, by_tag, tested, conversed, carried, heard, secrets_of, ruled, decide, p2}
 use Rattle.call_tests.specs.declared.LentTest.TheVariants.{ReplyRoom, GukLength, AkLength, ChallengeLength}
 use Rattle.call_tests.specs.declared.LineTest.TheVariants.{P5HoldsV, LinkDownWhileDown, DataWhileDown, UnknownTag, TagNotPermitted, BitNotAgreed, AarqNotAccepted, CounterWindow, MalformedApdu, NotTheChallenge, WrongProof}
 use Rattle.call_tests.specs.declared.BodyTest.{BodyTest}
@@ -69,7 +69,7 @@ module _ (m : Model) (a : Secrets) (h : Head) where
 
   -- Requests for the body.
 
-  result_number : (t : BodyTest) (r : Result) → resultRefusal r ≡ number_found (result_finds t r)
+  result_number : (t : BodyTest) (r : Result) → result_refusal r ≡ number_found (result_finds t r)
   result_number t (granted d) = refl
   result_number t (begun x d) = refl
   result_number t (denied c) = refl
@@ -189,7 +189,7 @@ module _ (m : Model) (a : Secrets) (h : Head) where
   unfolding released release_finds
   release_number c s = go (is_release s)
     where
-      go : (x : Bool) → N (cond x (says noTest (apdu h release_response) (associates c none l)) (refused_malformed h l)) ≡ number_found (cond x Passes (fault MalformedApdu))
+      go : (x : Bool) → N (cond x (says no_test (apdu h release_response) (associates c none l)) (refused_malformed h l)) ≡ number_found (cond x Passes (fault MalformedApdu))
       go true = refl
       go false = refl
 
@@ -226,9 +226,9 @@ module _ (m : Model) (a : Secrets) (h : Head) where
   up_number : (c : Client) (information : Bool) → N (link_up l c h information) ≡ number_found (link_up_finds l c information)
   unfolding link_up link_up_finds
   up_number c true = refl
-  up_number c false = go (held_byP5 c l)
+  up_number c false = go (held_by_p5 c l)
     where
-      go : (x : Bool) → N (cond x (says p5_holds_v (dm h) l) (says noTest (ua h) (with_peer c (linked true (peer c l)) l))) ≡ number_found (cond x (fault P5HoldsV) Passes)
+      go : (x : Bool) → N (cond x (says p5_holds_v (dm h) l) (says no_test (ua h) (with_peer c (linked true (peer c l)) l))) ≡ number_found (cond x (fault P5HoldsV) Passes)
       go true = refl
       go false = refl
 
@@ -236,7 +236,7 @@ module _ (m : Model) (a : Secrets) (h : Head) where
   unfolding link_down link_down_finds
   down_number c = go (peer c l).up
     where
-      go : (x : Bool) → N (cond x (says noTest (ua h) (with_peer c (linked false (peer c l)) l)) (says link_down_while_down (dm h) l)) ≡ number_found (cond x Passes (fault LinkDownWhileDown))
+      go : (x : Bool) → N (cond x (says no_test (ua h) (with_peer c (linked false (peer c l)) l)) (says link_down_while_down (dm h) l)) ≡ number_found (cond x Passes (fault LinkDownWhileDown))
       go true = refl
       go false = refl
 

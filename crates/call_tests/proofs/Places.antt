@@ -6,7 +6,7 @@ use Prim.Native.Nat.{ℕ, ◌-◌, ◌%◌}
 use lib.Dec.{eqb}
 use lib.ListN.{length}
 use Rattle.hdlc.specs.Layout.{flag, byte, format_of, hcs_of, information_of, fcs_of}
-use Rattle.hdlc.specs.Tests.{fails, meter_side, place_of as framePlace}
+use Rattle.hdlc.specs.Tests.{fails, meter_side, place_of as frame_place}
 use Rattle.hdlc.specs.declared.FrameTest.{FrameTest}
 use Rattle.hdlc.specs.declared.Place.TheVariants.{Byte, Nowhere}
 use Rattle.call_tests.specs.declared.LentTest.TheVariants.{ReplyRoom, GukLength, AkLength, ChallengeLength}
@@ -84,7 +84,7 @@ module _ (f : List ℕ) where
   addresses false true e = refl
   addresses false false e = absurd (false≢true e)
 
-  place_right : (t : FrameTest) → fails meter_side t f ≡ true → framePlace t f ≡ first_wrong (aspects_of t f) f
+  place_right : (t : FrameTest) → fails meter_side t f ≡ true → frame_place t f ≡ first_wrong (aspects_of t f) f
   place_right ShortFrame e = one _ 0 e
   place_right FlagMissing e = flags (eqb (byte f 0) flag) (eqb (byte f (length f - 1)) flag) (length f - 1) e
   place_right FrameType e = one _ 1 e

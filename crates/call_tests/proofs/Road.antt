@@ -28,7 +28,7 @@ use Rattle.hdlc.specs.declared.Frame.TheVariants.{Unanswered, Rejected, LinkUp, 
 use Rattle.hdlc.specs.declared.FrameTest.{FrameTest}
 use Rattle.hdlc.specs.declared.Verdict.{Verdict}
 use Rattle.hdlc.specs.declared.Verdict.TheVariants.{Failed, Passed}
-use Rattle.hdlc.specs.Tests.{fails as frameFails, meter_side, frame_tests, first_failing as frameFailing, FirstOf as FirstOfFrame}
+use Rattle.hdlc.specs.Tests.{fails as fails_frame, meter_side, frame_tests, first_failing as frame_failing, FirstOf as FirstOfFrame}
 use Rattle.hdlc.specs.Reading.{read_frame}
 use Rattle.hdlc.proofs.TestLaws.{passes_here, none_fails, fails_first}
 use Rattle.hdlc.proofs.ReadingLaws.{Told, read_told}
@@ -489,19 +489,19 @@ of_frame (Failed t) = Fails (OfFrame t)
 of_frame Passed = Passes
 
 module _ (m : Model) (a : Lent) where
-  frame_stretch : (ts : List FrameTest) → first_failing (call_fails m a) (map OfFrame ts) ≡ of_frame (frameFailing meter_side ts a.received)
-  unfolding first_failing frameFailing
+  frame_stretch : (ts : List FrameTest) → first_failing (call_fails m a) (map OfFrame ts) ≡ of_frame (frame_failing meter_side ts a.received)
+  unfolding first_failing frame_failing
   frame_stretch [] = refl
-  frame_stretch (t ∷ ts) = by_cond (frameFails meter_side t a.received) (frame_stretch ts)
+  frame_stretch (t ∷ ts) = by_cond (fails_frame meter_side t a.received) (frame_stretch ts)
     where
-      by_cond : (x : Bool) → first_failing (call_fails m a) (map OfFrame ts) ≡ of_frame (frameFailing meter_side ts a.received)
-          → cond x (Fails (OfFrame t)) (first_failing (call_fails m a) (map OfFrame ts)) ≡ of_frame (cond x (Failed t) (frameFailing meter_side ts a.received))
+      by_cond : (x : Bool) → first_failing (call_fails m a) (map OfFrame ts) ≡ of_frame (frame_failing meter_side ts a.received)
+          → cond x (Fails (OfFrame t)) (first_failing (call_fails m a) (map OfFrame ts)) ≡ of_frame (cond x (Failed t) (frame_failing meter_side ts a.received))
       by_cond true e = refl
       by_cond false e = e
 
-  frame_fails : (t : FrameTest) → FirstOfFrame meter_side frame_tests a.received t → frameFailing meter_side frame_tests a.received ≡ Failed t
+  frame_fails : (t : FrameTest) → FirstOfFrame meter_side frame_tests a.received t → frame_failing meter_side frame_tests a.received ≡ Failed t
   frame_fails t n =
-      ap (λ ts. frameFailing meter_side ts a.received) n.order
+      ap (λ ts. frame_failing meter_side ts a.received) n.order
       ∙ passes_here meter_side a.received n.before (t ∷ n.after) (none_fails meter_side a.received n.passed)
       ∙ fails_first meter_side a.received t n.after n.failed
 
@@ -512,7 +512,7 @@ module _ (m : Model) (a : Lent) where
   hears x = heard_finds m.line m.body (secrets_of a) a.received x
 
   -- by what the frame was read as, and what that tells of it
-  heard_road : (x : Frame) → Told a.received x → or_else (of_frame (frameFailing meter_side frame_tests a.received)) (rest x) ≡ hears x
+  heard_road : (x : Frame) → Told a.received x → or_else (of_frame (frame_failing meter_side frame_tests a.received)) (rest x) ≡ hears x
   heard_road (Unanswered t) (_, n) = ap (λ v. or_else (of_frame v) (rest (Unanswered t))) (frame_fails t n)
   heard_road (Rejected t h) (_, n, _) = ap (λ v. or_else (of_frame v) (rest (Rejected t h))) (frame_fails t n)
   heard_road (LinkUp c h i) (n, _, _) =

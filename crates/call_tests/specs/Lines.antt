@@ -3,14 +3,14 @@
 use Rattle.std.specs.Prelude.{cond, List, [], ◌∷◌, ◌++◌, ℕ, zero, suc, ◌/◌, ltb}
 use Prim.Native.String.{String, len, char_at}
 use Prim.Native.Char.{code}
-use Rattle.text.specs.Digits.{last_digits}
+use Rattle.io.specs.Digits.{last_digits}
 use Rattle.model.specs.declared.SoundnessTest.{SoundnessTest}
 use Rattle.model.specs.declared.SoundnessTest.TheVariants.{RegisterList, ColumnList, PeriodPermitted, ClockValid, RowClocksValid, RowCount, RowCells, AssociationKind, AssociationOnLink, AgreedServices, TransferPossible}
 use Rattle.hdlc.specs.declared.FrameTest.{FrameTest}
 use Rattle.hdlc.specs.declared.FrameTest.TheVariants.{ShortFrame, FlagMissing, FrameType, LengthMismatch, LengthEightOrNine, WrongFcs, WrongHcs, EvenAddress, FrmrReceived, OverLength, SegmentBit, PfClear, WrongDestination, WrongSource, UnknownControl, LinkDownWithInformation, ShortInformation, WrongLlc}
 use Rattle.hdlc.specs.declared.Place.{Place}
 use Rattle.hdlc.specs.declared.Place.TheVariants.{Byte, Nowhere}
-use Rattle.hdlc.specs.Tests.{number_of as frameNumber, place_of as framePlace}
+use Rattle.hdlc.specs.Tests.{number_of as frame_number, place_of as frame_place}
 use Rattle.call_tests.specs.declared.LentTest.{LentTest}
 use Rattle.call_tests.specs.declared.LentTest.TheVariants.{ReplyRoom, GukLength, AkLength, ChallengeLength}
 use Rattle.call_tests.specs.declared.LineTest.{LineTest}
@@ -49,7 +49,7 @@ line_number WrongProof = 13
 abbrev pub number_of : CallTest → ℕ
 number_of (OfLent t) = lent_number t
 number_of (OfState t) = 3
-number_of (OfFrame t) = frameNumber t
+number_of (OfFrame t) = frame_number t
 number_of (OfLine t) = line_number t
 number_of (OfBody t) = 13
 
@@ -155,7 +155,7 @@ name_found Passes = "none"
 abbrev pub place_of : CallTest → (received : List ℕ) → Place
 place_of (OfLent t) f = Nowhere
 place_of (OfState t) f = Nowhere
-place_of (OfFrame t) f = framePlace t f
+place_of (OfFrame t) f = frame_place t f
 place_of (OfLine t) f = Nowhere
 place_of (OfBody t) f = Nowhere
 

@@ -35,7 +35,7 @@ use Rattle.envelope.specs.declared.Shape.TheVariants.{Misshapen, Shaped}
 use Rattle.envelope.specs.Opening.{shape_of, Opened, fails, opens, opened}
 use Rattle.protocol.specs.declared.Secrets.{Secrets}
 use Rattle.protocol.specs.Clients.{ciphering, peer, counters, agreed_in, selective_in, blocks_in, lent_keys, dedicated_keys, permitted, bit_agreed, is_unknown}
-use Rattle.protocol.specs.Decide.{held_byP5, is_challenge, proves_itself, secrets_of}
+use Rattle.protocol.specs.Decide.{held_by_p5, is_challenge, proves_itself, secrets_of}
 use Rattle.call_tests.specs.declared.LineTest.{LineTest}
 use Rattle.call_tests.specs.declared.LineTest.TheVariants.{LinkUpWithInformation, P5HoldsV, LinkDownWhileDown, DataWhileDown, UnknownTag, TagNotPermitted, BitNotAgreed, AarqNotAccepted, EnvelopeShape, EnvelopeTag, CounterWindow, MalformedApdu, NotTheChallenge, WrongProof}
 use Rattle.call_tests.specs.declared.BodyTest.{BodyTest}
@@ -52,7 +52,7 @@ fault t = Fails (OfLine t)
 -- Links.
 
 unfoldable pub link_up_finds : Line → Client → (information : Bool) → Finding
-link_up_finds l c information = cond information (fault LinkUpWithInformation) (cond (held_byP5 c l) (fault P5HoldsV) Passes)
+link_up_finds l c information = cond information (fault LinkUpWithInformation) (cond (held_by_p5 c l) (fault P5HoldsV) Passes)
 
 unfoldable pub link_down_finds : Line → Client → Finding
 link_down_finds l c = cond (peer c l).up Passes (fault LinkDownWhileDown)

@@ -38,7 +38,7 @@ use Rattle.envelope.specs.declared.Shape.TheVariants.{Misshapen, Shaped}
 use Rattle.envelope.specs.Opening.{shape_of, Opened, fails as stays, opens, opened}
 use Rattle.protocol.specs.declared.Secrets.{Secrets}
 use Rattle.protocol.specs.Clients.{ciphering, peer, counters, agreed_in, selective_in, blocks_in, lent_keys, dedicated_keys, permitted, bit_agreed, is_unknown}
-use Rattle.protocol.specs.Decide.{held_byP5, is_challenge, proves_itself, secrets_of}
+use Rattle.protocol.specs.Decide.{held_by_p5, is_challenge, proves_itself, secrets_of}
 use Rattle.call_tests.specs.declared.LentTest.{LentTest}
 use Rattle.call_tests.specs.declared.LentTest.TheVariants.{ReplyRoom, GukLength, AkLength, ChallengeLength}
 use Rattle.call_tests.specs.declared.LineTest.{LineTest}
@@ -195,7 +195,7 @@ on_request l a c s Unknown g = false
 abbrev pub line_fails : Line → Secrets → (received : List ℕ) → (x : Frame) → LineTest → Bool
 -- "93 with information, or from V while P5 holds V"; 53 while down; "13 while down"
 line_fails l a f x LinkUpWithInformation = on_link_up x (λ c information. information)
-line_fails l a f x P5HoldsV = on_link_up x (λ c information. held_byP5 c l)
+line_fails l a f x P5HoldsV = on_link_up x (λ c information. held_by_p5 c l)
 line_fails l a f x LinkDownWhileDown = on_link_down x (λ c. not (peer c l).up)
 line_fails l a f x DataWhileDown = on_apdu f x (λ c s. not (peer c l).up)
 -- "a tag other than .."; "a tag not permitted here, or GET or ACTION without its agreed bit"

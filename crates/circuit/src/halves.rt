@@ -3,8 +3,8 @@
 ghost use Rattle.std.specs.Prelude.{◌≡◌, ℕ, ◌<◌};
 ghost use Rattle.std.specs.Int.Bits.{bit_xor};
 ghost use Rattle.planes.specs.Lanes.{lane};
-ghost use Rattle.sbox.specs.SboxRule.{affine, «inverse» as inverseOf, «times» as timesOf};
-ghost use Rattle.sbox.specs.Halves.{scaled_square, «norm» as normOf};
+ghost use Rattle.sbox.specs.SboxRule.{affine, «inverse» as inverse_of, «times» as times_of};
+ghost use Rattle.sbox.specs.Halves.{scaled_square, «norm» as norm_of};
 ghost use Rattle.circuit.specs.Layout.{half_at, whole_at};
 
 use planes::Planes;
@@ -51,7 +51,7 @@ pub fn into_halves(p: Planes) -> Halves
 
 // The inverse of each byte, 0 for 0: its halves exchanged, each times the inverse of the norm.
 pub fn inverse(h: Halves) -> Halves
-    ensures { (j : ℕ) → whole_at j result ≡ inverseOf (whole_at j h) }
+    ensures { (j : ℕ) → whole_at j result ≡ inverse_of (whole_at j h) }
 {
     let m = h.low;
     let n = h.high;
@@ -86,7 +86,7 @@ pub fn affine_out(h: Halves) -> Planes
 
 // The norm of the byte whose halves are m and n.
 fn norm(m: Half, n: Half) -> Half
-    ensures { (j : ℕ) → half_at j result ≡ normOf (half_at j m) (half_at j n) }
+    ensures { (j : ℕ) → half_at j result ≡ norm_of (half_at j m) (half_at j n) }
 {
     add(times(m, n), scaled_square(m, n))
 }
@@ -121,7 +121,7 @@ fn add(m: Half, n: Half) -> Half
 
 // The product of halves, which is a half again: three products of quarters, and sums of them.
 fn times(m: Half, n: Half) -> Half
-    ensures { (j : ℕ) → half_at j result ≡ timesOf (half_at j m) (half_at j n) }
+    ensures { (j : ℕ) → half_at j result ≡ times_of (half_at j m) (half_at j n) }
 {
     let f = (m.a ^ m.b) & (n.a ^ n.b);
     let g = (m.c ^ m.d) & (n.c ^ n.d);
@@ -142,7 +142,7 @@ fn times(m: Half, n: Half) -> Half
 
 // The inverse of a half; 0 for 0.
 fn inverse_half(m: Half) -> Half
-    ensures { (j : ℕ) → half_at j result ≡ inverseOf (half_at j m) }
+    ensures { (j : ℕ) → half_at j result ≡ inverse_of (half_at j m) }
 {
     let s = m.a ^ m.c;
     let t = s ^ (m.b ^ m.d);

@@ -8,7 +8,7 @@ use native.Mathlib.Omega.{arith}
 use lib.Dec.{ltb}
 use lib.ListN.{length, length-append}
 use borrow.Author.Tests.{ltb-true, ltb-false}
-use Rattle.text.specs.Digits.{last_digits, IsDigitCount}
+use Rattle.io.specs.Digits.{last_digits, IsDigitCount}
 use Rattle.call_tests.specs.Lines.{letters, digits_within, decimal}
 use Rattle.diagnosis_write.specs.Lengths.{longest_number}
 

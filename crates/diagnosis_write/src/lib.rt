@@ -50,7 +50,7 @@ fn put_decimal(out: &mut [u8], at: usize, n: u64) -> usize
     ensures { Wrote out.old at out.new result (decimal n) }
 {
     let mut digits = [0u8; 20];
-    let k = text::decimal(n, &mut digits);
+    let k = io::decimal(n, &mut digits);
     wire_write::put_all(out, at, &digits[..k])
 }
 

@@ -4,7 +4,7 @@
 
 ghost use Rattle.std.specs.Prelude.{◌≡◌, ◌≤◌, ◌++◌, length, drop};
 ghost use Rattle.ghash.specs.Product.{num};
-ghost use Rattle.gcm.specs.Gcm.{hash_key, bit_length, authenticated, tag, authentic, «gmac» as gmacOf, «ready» as readyOf};
+ghost use Rattle.gcm.specs.Gcm.{hash_key, bit_length, authenticated, tag, authentic, «gmac» as gmac_of, «ready» as ready_of};
 ghost use Rattle.gcm.specs.Calls.{under, key_of, Sealed, Unsealed};
 
 use aes::RoundKey;
@@ -19,7 +19,7 @@ pub struct ReadyKey {
 
 // Makes a key ready.
 pub fn ready(key: [u8; 16]) -> ReadyKey
-    ensures { key_of result ≡ readyOf key }
+    ensures { key_of result ≡ ready_of key }
 {
     let rounds = aes::round_keys(key);
     let subkey = hash_key(aes::schedule(rounds));
@@ -85,7 +85,7 @@ pub fn is_authentic(key: ReadyKey, nonce: [u8; 12], aad: &[u8], c: &[u8], t: &[u
 
 // The tag of associated data alone.
 pub fn gmac(key: ReadyKey, nonce: [u8; 12], aad: &[u8]) -> [u8; 12]
-    ensures { result ≡ gmacOf (key_of key) nonce aad.now }
+    ensures { result ≡ gmac_of (key_of key) nonce aad.now }
 {
     let h = key.subkey;
     let w = schedule_of(key);

@@ -3,7 +3,7 @@
 #![tactic(auto)]
 
 ghost use Rattle.std.specs.Prelude.{◌≡◌};
-ghost use Rattle.material.specs.Material.{associated_data, keys_from, keys_of, «nonce» as nonceOf, proof_data};
+ghost use Rattle.material.specs.Material.{associated_data, keys_from, keys_of, «nonce» as nonce_of, proof_data};
 
 use gcm::ReadyKey;
 
@@ -24,7 +24,7 @@ pub fn ready_keys(key: [u8; 16], ak: [u8; 16]) -> ReadyKeys
 
 // The sender's title and the counter.
 pub fn nonce(title: [u8; 8], counter: u32) -> [u8; 12]
-    ensures { result ≡ nonceOf title counter }
+    ensures { result ≡ nonce_of title counter }
 {
     let mut n = [0u8; 12];
     let at = wire_write::put_8(&mut n, 0, &title);

@@ -12,7 +12,7 @@ use Rattle.model.specs.Periods.{permitted_period}
 use Rattle.model.specs.declared.SoundnessTest.TheVariants.{RegisterList, ColumnList, PeriodPermitted, ClockValid, RowClocksValid, RowCount, RowCells, AssociationKind, AssociationOnLink, AgreedServices}
 use Rattle.model.specs.State.{broken}
 use Rattle.model.specs.Soundness.{passes, accepted_registers, accepted_columns, allowed, rows_allow, sound, line_sound}
-use Rattle.model.specs.Calls.{OwnerCall, owner, give_registers, set_value, set_columns, set_period, tick, setP5, power_up, refused, done, Protocol, ticked, powered_line, act, step}
+use Rattle.model.specs.Calls.{OwnerCall, owner, give_registers, set_value, set_columns, set_period, tick, set_p5, power_up, refused, done, Protocol, ticked, powered_line, act, step}
 use Rattle.model.proofs.ListLaws.{both}
 use Rattle.store.specs.declared.Registers.{Registers}
 use Rattle.store.specs.declared.Columns.{Columns}
@@ -127,7 +127,7 @@ module _ (p : Protocol) (m : Meter) where
   unfolding act view
   tick_taken t b h e = rw (h, e)
 
-  pub p5_set : (f : Bool) → act p (owner (setP5 f)) (view m)
+  pub p5_set : (f : Bool) → act p (owner (set_p5 f)) (view m)
       ≡ done (view (record { line = record { title = m.line.title; verification = m.line.verification; han = m.line.han; p5 = f }; body = m.body }))
   unfolding act view line_of
   p5_set f = refl

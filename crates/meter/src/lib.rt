@@ -174,7 +174,7 @@ impl Meter {
 
     // The P5 flag is set or cleared. Refusal 3.
     pub fn set_p5(mut self, held: bool) -> Changed
-        ensures { Owned (OwnerCall.setP5 held) self result }
+        ensures { Owned (OwnerCall.set_p5 held) self result }
     {
         let m = self;
         if !is_sound(m) {

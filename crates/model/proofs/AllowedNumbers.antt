@@ -14,7 +14,7 @@ use Rattle.model.specs.Periods.{listed, permitted_period}
 use Rattle.model.specs.State.{Transfer, idle, running, ended, Body, Model}
 use Rattle.model.specs.Soundness.{accepted_registers, accepted_columns, sound}
 use Rattle.model.specs.Objects.{meaning, Service, get, action, Inquiry, ask, go_on, Result, granted, begun, denied, method_invoked, attribute_read, Turn, answered, continued, turned, refusal_of}
-use Rattle.model.specs.Calls.{refused, Lent, lent_refusal, Call, frame, owner, OwnerCall, own_refusal, give_registers, set_value, set_columns, set_period, tick, setP5, power_up, Outcome, Decision, answer, serve, Protocol, decided, act, early, step}
+use Rattle.model.specs.Calls.{refused, Lent, lent_refusal, Call, frame, owner, OwnerCall, own_refusal, give_registers, set_value, set_columns, set_period, tick, set_p5, power_up, Outcome, Decision, answer, serve, Protocol, decided, act, early, step}
 use Rattle.model.specs.Archive.{frame_numbers, said_number, KnownNumbers, numbers, NumbersAllowed, keeping_numbers, RefusalsKeep}
 use Rattle.model.proofs.ListLaws.{both, by_test, every_anywhere}
 
@@ -67,7 +67,7 @@ own_allowed (set_value n v) m = own_if (given n m.body.store.registers) 17
 own_allowed (set_columns cs) m = own_if (accepted_columns m.body.store.registers cs) 18
 own_allowed (set_period d) m = own_if (permitted_period d) 15
 own_allowed (tick t) m = own_if (valid_clock t) 14
-own_allowed (setP5 f) m = refl
+own_allowed (set_p5 f) m = refl
 own_allowed power_up m = refl
 
 -- the body answers with number 0 or 13

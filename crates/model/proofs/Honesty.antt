@@ -13,7 +13,7 @@ use Rattle.model.specs.declared.Register.{Register}
 use Rattle.model.specs.Names.{same_name, given, with_value, blank_register}
 use Rattle.model.specs.State.{Line, Entry, Store, runs, Model, with_body, with_store, with_cells}
 use Rattle.model.specs.Objects.{profile_named, Service, get, action, Request, ask, go_on}
-use Rattle.model.specs.Calls.{Lent, Call, frame, owner, OwnerCall, give_registers, set_value, set_columns, set_period, tick, setP5, power_up, Wrap, Decision, answer, serve, Protocol, KeepsLengths, step, trace}
+use Rattle.model.specs.Calls.{Lent, Call, frame, owner, OwnerCall, give_registers, set_value, set_columns, set_period, tick, set_p5, power_up, Wrap, Decision, answer, serve, Protocol, KeepsLengths, step, trace}
 use Rattle.model.specs.Demand3.{Chosen, hide, hide_register, hide_cells, hide_entry, hidden, hidden_owner, hidden_call, Alike, any_chosen, asks_chosen, decides_read}
 use Rattle.model.specs.Honesty.{replace_registers, replace_cells, replace_rows, ReplacedAlike, value_at, cell_at, blank_entry, AlikeReplaced, replaced_owner, ReplacedCallAlike, nothing, NothingChosen, UnchosenProfile, UnchosenBlocks, ChosenRead, ChosenBlock, ReadsAreChosen}
 use Rattle.model.proofs.ListLaws.{both}
@@ -55,7 +55,7 @@ owner_replaced ch v (set_value n x) = ap (set_value n) (hide_replaced (ch n) (v 
 owner_replaced ch v (set_columns cs) = refl
 owner_replaced ch v (set_period d) = refl
 owner_replaced ch v (tick t) = refl
-owner_replaced ch v (setP5 f) = refl
+owner_replaced ch v (set_p5 f) = refl
 owner_replaced ch v power_up = refl
 
 pub replaced_call_alike : ReplacedCallAlike
@@ -165,7 +165,7 @@ owner_shown (set_value n v) = refl
 owner_shown (set_columns cs) = refl
 owner_shown (set_period d) = refl
 owner_shown (tick t) = refl
-owner_shown (setP5 f) = refl
+owner_shown (set_p5 f) = refl
 owner_shown power_up = refl
 
 call_shown : (c : Call) → hidden_call nothing c ≡ c

@@ -16,7 +16,7 @@ use Rattle.model.specs.Periods.{capture_due}
 use Rattle.model.specs.State.{Line, Body, Model, with_body, with_clock}
 use Rattle.model.specs.Soundness.{sound}
 use Rattle.model.specs.Objects.{Content, simple, rows, record_number, register, Meaning, known, unknown, meaning, Service, get, action, Request, ask, go_on, Result, granted, begun, denied, refusal_of, method_invoked, after_method, after_action, answered, turned, profile_named}
-use Rattle.model.specs.Calls.{Lent, Call, frame, owner, OwnerCall, own_refusal, obeyed, give_registers, set_value, set_columns, set_period, tick, setP5, power_up, Outcome, done, Wrap, Decision, answer, serve, Protocol, decided, settles, row_now, captured, ticked, act, early, step}
+use Rattle.model.specs.Calls.{Lent, Call, frame, owner, OwnerCall, own_refusal, obeyed, give_registers, set_value, set_columns, set_period, tick, set_p5, power_up, Outcome, done, Wrap, Decision, answer, serve, Protocol, decided, settles, row_now, captured, ticked, act, early, step}
 use Rattle.model.specs.Archive.{rows_of, OneMore, DueTicks, on_profile, empties, may_empty, RowsAfter, stay, grow, empty, RowsStay}
 use Rattle.model.proofs.ListLaws.{by_test}
 use Rattle.model.proofs.ObjectLaws.{Acts, ActsBy, action_acts, read_moves, block_moves}
@@ -83,7 +83,7 @@ module _ (p : Protocol) (m : Model) where
       go : (b : Bool) → capture_due m.body.period t ≡ b → RowsAfter p (owner (tick t)) m (done (with_body (with_clock t (cond b (captured t m.body) m.body)) m))
       go true e = grow t refl e (let h = captured_more t m.body in record { rows = h.rows; kept = h.kept; number = h.number })
       go false e = stay refl
-  owner_rows (setP5 f) = stay refl
+  owner_rows (set_p5 f) = stay refl
   owner_rows power_up = empty refl refl refl
 
   act_rows : (c : Call) → RowsAfter p c m (act p c m)

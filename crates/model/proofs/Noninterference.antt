@@ -13,11 +13,11 @@ use Rattle.model.specs.declared.Clock.{Clock}
 use Rattle.model.specs.declared.Register.{Register}
 use Rattle.model.specs.Limits.{max_rows}
 use Rattle.model.specs.Names.{given}
-use Rattle.model.specs.State.{Entry, idle, Body, Model, with_line, with_body, with_store, with_clock, with_period, with_number, with_transfer, with_other_rows, keeping, withP5}
+use Rattle.model.specs.State.{Entry, idle, Body, Model, with_line, with_body, with_store, with_clock, with_period, with_number, with_transfer, with_other_rows, keeping, with_p5}
 use Rattle.model.specs.Periods.{capture_due}
 use Rattle.model.specs.Soundness.{sound}
 use Rattle.model.specs.Objects.{Service, get, action, ask, go_on}
-use Rattle.model.specs.Calls.{Call, frame, owner, OwnerCall, own_refusal, obeyed, give_registers, set_value, set_columns, set_period, tick, setP5, power_up, Outcome, done, refused, Decision, answer, serve, Protocol, KeepsLengths, decided, settled, settles, captured, ticked, row_now, next_number, with_given, with_assigned, with_columns, powered_line, act, early, step, trace}
+use Rattle.model.specs.Calls.{Call, frame, owner, OwnerCall, own_refusal, obeyed, give_registers, set_value, set_columns, set_period, tick, set_p5, power_up, Outcome, done, refused, Decision, answer, serve, Protocol, KeepsLengths, decided, settled, settles, captured, ticked, row_now, next_number, with_given, with_assigned, with_columns, powered_line, act, early, step, trace}
 use Rattle.model.specs.Demand3.{Chosen, hide, hide_register, hide_body, hidden, hidden_owner, hidden_call, Alike, AlikeCalls, asks_chosen, decides_read, reads, SameOutcome, SameOutcomes, none_same, more_same, TraceDemand3, Handed, Gave, seen, none_run, more_run, RunIsTrace, Demand3}
 use Rattle.model.proofs.ListLaws.{passed}
 use Rattle.model.proofs.HidingLaws.{registers_twice, sound_hidden, given_hidden, assigned_hidden, accepted_hidden, columns_hidden, row_hidden, rows_pushed, rows_twice}
@@ -96,7 +96,7 @@ module _ (p : Protocol) (keeps : KeepsLengths p) (ch : Chosen) where
   own_refusal_hidden (set_columns cs) m = ap (λ (b : Bool). cond b 0 18) (columns_hidden ch m.body.store.registers cs)
   own_refusal_hidden (set_period d) m = refl
   own_refusal_hidden (tick t) m = refl
-  own_refusal_hidden (setP5 f) m = refl
+  own_refusal_hidden (set_p5 f) m = refl
   own_refusal_hidden power_up m = refl
 
   obeyed_hidden : (o : OwnerCall) (m : Model) → own_refusal o m ≡ 0 → hidden ch (obeyed o m) ≡ hidden ch (obeyed (hidden_owner ch o) (hidden ch m))
@@ -105,7 +105,7 @@ module _ (p : Protocol) (keeps : KeepsLengths p) (ch : Chosen) where
   obeyed_hidden (set_columns cs) m z = ap (λ (b : Body). with_body b m) (columns_close cs m.body)
   obeyed_hidden (set_period d) m z = ap (λ (b : Body). with_body b m) (body_twice ch (with_period d m.body))
   obeyed_hidden (tick t) m z = ap (λ (b : Body). with_body b m) (ticked_close t m.body)
-  obeyed_hidden (setP5 f) m z = hidden_twice (with_line (withP5 f m.line) m)
+  obeyed_hidden (set_p5 f) m z = hidden_twice (with_line (with_p5 f m.line) m)
   obeyed_hidden power_up m z = ap (λ (b : Body). record { line = powered_line m.line; body = with_transfer idle (with_number 0 b) }) (emptied_twice ch m.body)
 
   act_close : (c : Call) (m : Model) → Close (reads p ch c m) (act p c m) (act p (hidden_call ch c) (hidden ch m))

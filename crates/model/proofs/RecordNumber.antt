@@ -9,7 +9,7 @@ use Rattle.model.specs.Periods.{capture_due}
 use Rattle.model.specs.State.{Line, Body, Model, with_body, with_clock}
 use Rattle.model.specs.Soundness.{sound}
 use Rattle.model.specs.Objects.{record_number_named, Content, simple, rows, record_number, register, Meaning, known, unknown, meaning, Service, get, action, Request, ask, go_on, Result, granted, begun, denied, refusal_of, method_invoked, after_method, after_action, answered, turned}
-use Rattle.model.specs.Calls.{Lent, Call, frame, owner, OwnerCall, own_refusal, obeyed, give_registers, set_value, set_columns, set_period, tick, setP5, power_up, Outcome, done, Wrap, Decision, answer, serve, Protocol, decided, settles, captured, ticked, act, early, step}
+use Rattle.model.specs.Calls.{Lent, Call, frame, owner, OwnerCall, own_refusal, obeyed, give_registers, set_value, set_columns, set_period, tick, set_p5, power_up, Outcome, done, Wrap, Decision, answer, serve, Protocol, decided, settles, captured, ticked, act, early, step}
 use Rattle.model.specs.Archive.{on_record_number, renumbers, may_reset, NumberAfter, same, next, reset, NumberStays}
 use Rattle.model.proofs.ListLaws.{by_test}
 use Rattle.model.proofs.ObjectLaws.{Acts, ActsBy, action_acts, read_moves, block_moves}
@@ -50,7 +50,7 @@ module _ (p : Protocol) (m : Model) where
       go : (b : Bool) → capture_due m.body.period t ≡ b → NumberAfter p (owner (tick t)) m (done (with_body (with_clock t (cond b (captured t m.body) m.body)) m))
       go true e = next t refl e refl
       go false e = same refl
-  owner_number (setP5 f) = same refl
+  owner_number (set_p5 f) = same refl
   owner_number power_up = reset refl refl refl
 
   act_number : (c : Call) → NumberAfter p c m (act p c m)

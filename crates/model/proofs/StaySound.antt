@@ -18,13 +18,13 @@ use Rattle.model.specs.Limits.{longest_sent, block_room, max_rows, max_registers
 use Rattle.model.specs.Names.{every, bearing, blank_register, place, assigned, name_of}
 use Rattle.model.specs.Clocks.{valid_clock, real_date, real_time, fixed_bytes, days_in, february_days}
 use Rattle.model.specs.Periods.{periods, permitted_period, capture_due}
-use Rattle.model.specs.State.{Line, Entry, Store, Long, profile, Transfer, idle, running, ended, broken, Body, Model, with_line, with_body, with_transfer, with_other_rows, keeping, with_rows, with_registers, with_clock, with_number, with_period, withP5, new_meter}
+use Rattle.model.specs.State.{Line, Entry, Store, Long, profile, Transfer, idle, running, ended, broken, Body, Model, with_line, with_body, with_transfer, with_other_rows, keeping, with_rows, with_registers, with_clock, with_number, with_period, with_p5, new_meter}
 use Rattle.model.specs.declared.SoundnessTest.{SoundnessTest}
 use Rattle.model.specs.declared.SoundnessTest.TheVariants.{RegisterList, ColumnList, PeriodPermitted, ClockValid, RowClocksValid, RowCount, RowCells, AssociationKind, AssociationOnLink, AgreedServices, TransferPossible}
 use Rattle.model.specs.Soundness.{passes, accepted_registers, accepted_columns, kinds_known, links_stand, services_offered, line_sound, takes_blocks, could_ask, allowed, rows_allow, sound}
 use Rattle.model.specs.Selecting.{whole, numbered, dated}
 use Rattle.model.specs.Objects.{Content, simple, rows, record_number, register, Meaning, known, unknown, meaning, Service, get, action, Inquiry, ask, go_on, Result, granted, begun, denied, attribute_read, method_invoked, after_method, is_last, long_data, went_out, Turn, transfer_after, after_read, after_action, answered, continued, turned}
-use Rattle.model.specs.Calls.{Call, frame, owner, OwnerCall, own_refusal, obeyed, give_registers, set_value, set_columns, set_period, tick, setP5, power_up, Outcome, Decision, answer, serve, Protocol, decided, settled, next_number, row_now, captured, ticked, with_assigned, powered_line, act, early, step}
+use Rattle.model.specs.Calls.{Call, frame, owner, OwnerCall, own_refusal, obeyed, give_registers, set_value, set_columns, set_period, tick, set_p5, power_up, Outcome, Decision, answer, serve, Protocol, decided, settled, next_number, row_now, captured, ticked, with_assigned, powered_line, act, early, step}
 use Rattle.model.specs.Archive.{NewMeterSound, line_after, KeepsLines, StaysSound}
 use Rattle.model.proofs.ListLaws.{both, both_true, by_test, every_anywhere, passed}
 use Rattle.model.proofs.SoundnessLaws.{sound_passes, sound_from}
@@ -214,7 +214,7 @@ ticked_allowed : (l : Line) (t : Clock) (b : Body) → allowed l b.transfer ≡ 
 unfolding ticked captured
 ticked_allowed l t b e = by_test (λ (c : Body). allowed l c.transfer ≡ true) (capture_due b.period t) (λ _. broken_allowed l b.transfer e) (λ _. e)
 
-p5_allowed : (f : Bool) (l : Line) (t : Transfer) → allowed (withP5 f l) t ≡ allowed l t
+p5_allowed : (f : Bool) (l : Line) (t : Transfer) → allowed (with_p5 f l) t ≡ allowed l t
 unfolding allowed
 p5_allowed f l idle = refl
 p5_allowed f l (running (profile whole) k) = refl
@@ -303,7 +303,7 @@ module _ (m : Model) (s : sound m ≡ true) where
   owner_sound (set_columns cs) z = other_sound _ (good_none m.body.store.registers cs good.store.registers (passed (accepted_columns m.body.store.registers cs) 18 refl z))
   owner_sound (set_period d) z = body_sound_lem _ (good_period d m.body (passed (permitted_period d) 15 refl z) good) kept
   owner_sound (tick t) z = body_sound_lem _ (good_ticked t m.body (passed (valid_clock t) 14 refl z) good) (ticked_allowed m.line t m.body kept)
-  owner_sound (setP5 f) z = sound_of (with_line (withP5 f m.line) m) good (good_line m s) (p5_allowed f m.line m.body.transfer ∙ kept)
+  owner_sound (set_p5 f) z = sound_of (with_line (with_p5 f m.line) m) good (good_line m s) (p5_allowed f m.line m.body.transfer ∙ kept)
   owner_sound power_up z = sound_of _ (good_transfer idle _ (idle_goes _) (good_number 0 _ (good_emptied m.body good))) refl (idle_allowed (powered_line m.line))
 
   module _ (p : Protocol) (keeps : KeepsLines p) where

@@ -22,7 +22,7 @@ use Rattle.model.specs.Selecting.{Selection, described}
 use Rattle.model.specs.State.{Line, Entry, Store, Long, Transfer, idle, running, ended, runs, broken, Body, Model, with_body, with_clock, with_transfer}
 use Rattle.model.specs.Objects.{own, device_object, profile_named, Content, simple, rows, record_number, register, Meaning, known, unknown, Object, meaning, serves, Parameter, Service, get, action, Request, Inquiry, ask, go_on, Result, granted, begun, denied, rows_data, attribute_data, Picked, these, wrong, takes_selector, selected_rows, begins_with, begins, fitting, shown, attribute_read, good_parameter, method_invoked, after_method, block, is_last, long_data, went_out, Turn, refusal_of, get_answer, transfer_after, after_read, after_action, answered, refused_turn, next_turn, continued, turned}
 use Rattle.model.specs.Soundness.{accepted_registers, accepted_columns, takes_blocks, could_ask, allowed, sound}
-use Rattle.model.specs.Calls.{Lent, Call, frame, owner, OwnerCall, own_refusal, obeyed, give_registers, set_value, set_columns, set_period, tick, setP5, power_up, Outcome, refused, done, Wrap, Decision, answer, serve, Protocol, decided, kept_by, settled, settles, captured, ticked, act, early, step}
+use Rattle.model.specs.Calls.{Lent, Call, frame, owner, OwnerCall, own_refusal, obeyed, give_registers, set_value, set_columns, set_period, tick, set_p5, power_up, Outcome, refused, done, Wrap, Decision, answer, serve, Protocol, decided, kept_by, settled, settles, captured, ticked, act, early, step}
 use Rattle.model.specs.Blocks.{FirstBlock, NextBlock, NumberedRefused, BringsOtherRows, captures, columns, registers, EndsTransfers, BeginsAnother, ForgetsTransfers, LeavesTransfers, table_of, LeftOfTransfer, stopped, unmoved, moved, began, TransfersAreReads}
 use Rattle.model.proofs.ListLaws.{both, by_test, passed}
 use Rattle.model.proofs.NameLaws.{same_name_lem}
@@ -166,7 +166,7 @@ module _ (p : Protocol) (m : Model) where
   owner_after (tick t) =
       by_test (λ (b : Body). LeftOfTransfer p (owner (tick t)) m (done (with_body (with_clock t b) m))) (capture_due m.body.period t)
       (λ _. stopped (broken_stopped m.body.transfer)) (λ _. unmoved refl refl)
-  owner_after (setP5 f) = unmoved refl refl
+  owner_after (set_p5 f) = unmoved refl refl
   owner_after power_up = stopped refl
 
   -- the line after a frame leaves what the body left, or no transfer
@@ -469,7 +469,7 @@ module _ (p : Protocol) (m : Model) where
   obeyed_leaves (tick t) z n h =
       by_test (λ (b : Body). Same (done (with_body (with_clock t b) m))) (capture_due m.body.period t)
       (λ d. broken_left m.body.transfer (λ r. h (r, captures t (passed (valid_clock t) 14 refl z) d))) (λ _. refl)
-  obeyed_leaves (setP5 f) z n h = refl
+  obeyed_leaves (set_p5 f) z n h = refl
   obeyed_leaves power_up z n h = absurd (n refl)
 
   owner_leaves : (o : OwnerCall) → (o ≡ power_up → ⊥) → ((runs m.body.transfer ≡ true) × BringsOtherRows m o → ⊥) → Same (step p (owner o) m)

@@ -11,7 +11,7 @@ use Rattle.model.specs.Periods.{listed, capture_due}
 use Rattle.model.specs.State.{Line, Entry, Body, Model, new_meter}
 use Rattle.model.specs.Soundness.{line_sound, sound}
 use Rattle.model.specs.Objects.{profile_named, record_number_named, Service, get, action, Inquiry, ask, go_on}
-use Rattle.model.specs.Calls.{Lent, Call, frame, owner, OwnerCall, give_registers, set_value, set_columns, set_period, tick, setP5, power_up, Outcome, refused, Decision, answer, serve, Protocol, step}
+use Rattle.model.specs.Calls.{Lent, Call, frame, owner, OwnerCall, give_registers, set_value, set_columns, set_period, tick, set_p5, power_up, Outcome, refused, Decision, answer, serve, Protocol, step}
 
 -- Rows.
 
@@ -61,7 +61,7 @@ owner_empties (set_value n v) = false
 owner_empties (set_columns cs) = true
 owner_empties (set_period d) = false
 owner_empties (tick t) = false
-owner_empties (setP5 f) = false
+owner_empties (set_p5 f) = false
 owner_empties power_up = true
 
 abbrev pub may_empty : Protocol → Call → Line → Bool
@@ -98,7 +98,7 @@ owner_resets (set_value n v) = false
 owner_resets (set_columns cs) = false
 owner_resets (set_period d) = false
 owner_resets (tick t) = false
-owner_resets (setP5 f) = false
+owner_resets (set_p5 f) = false
 owner_resets power_up = true
 
 abbrev pub may_reset : Protocol → Call → Line → Bool
@@ -152,7 +152,7 @@ own_numbers (set_value n v) = 17 ∷ []
 own_numbers (set_columns cs) = 18 ∷ []
 own_numbers (set_period d) = 15 ∷ []
 own_numbers (tick t) = 14 ∷ []
-own_numbers (setP5 f) = []
+own_numbers (set_p5 f) = []
 own_numbers power_up = []
 
 abbrev pub numbers : Call → List ℕ

@@ -7,7 +7,7 @@ use Rattle.model.specs.declared.Register.{Register}
 use Rattle.model.specs.Names.{same_name, given, with_value}
 use Rattle.model.specs.State.{Entry, Store, runs, Body, Model, with_body, with_store, with_cells}
 use Rattle.model.specs.Objects.{profile_named, Service, get, action, Inquiry, ask, go_on}
-use Rattle.model.specs.Calls.{Call, frame, owner, OwnerCall, give_registers, set_value, set_columns, set_period, tick, setP5, power_up, Outcome, Decision, answer, serve, Protocol, step, trace}
+use Rattle.model.specs.Calls.{Call, frame, owner, OwnerCall, give_registers, set_value, set_columns, set_period, tick, set_p5, power_up, Outcome, Decision, answer, serve, Protocol, step, trace}
 
 -- "Registers are chosen by name, whenever given."
 abbrev pub Chosen : Type 0
@@ -59,7 +59,7 @@ hidden_owner ch (set_value n v) = set_value n (hide (ch n) v)
 hidden_owner ch (set_columns cs) = set_columns cs
 hidden_owner ch (set_period d) = set_period d
 hidden_owner ch (tick t) = tick t
-hidden_owner ch (setP5 f) = setP5 f
+hidden_owner ch (set_p5 f) = set_p5 f
 hidden_owner ch power_up = power_up
 
 abbrev pub hidden_call : Chosen → Call → Call

@@ -7,7 +7,7 @@ use Rattle.model.specs.Names.{same_name, given, with_value, blank_register}
 use Rattle.model.specs.State.{Line, Entry, Store, runs, Model, with_body, with_store, with_cells}
 use Rattle.model.specs.Selecting.{Selection}
 use Rattle.model.specs.Objects.{profile_named, get, Request, ask, go_on}
-use Rattle.model.specs.Calls.{Lent, Call, frame, owner, OwnerCall, give_registers, set_value, set_columns, set_period, tick, setP5, power_up, Wrap, serve, Protocol, step, trace}
+use Rattle.model.specs.Calls.{Lent, Call, frame, owner, OwnerCall, give_registers, set_value, set_columns, set_period, tick, set_p5, power_up, Wrap, serve, Protocol, step, trace}
 use Rattle.model.specs.Demand3.{Chosen, hidden_call, Alike, AlikeCalls, any_chosen, reads}
 
 -- The chosen values and the cells recorded from them, replaced by arbitrary numbers: v gives one for each register's place,
@@ -64,7 +64,7 @@ replaced_owner ch v (set_value n x) = set_value n (cond (ch n) (v 0) x)
 replaced_owner ch v (set_columns cs) = set_columns cs
 replaced_owner ch v (set_period d) = set_period d
 replaced_owner ch v (tick t) = tick t
-replaced_owner ch v (setP5 f) = setP5 f
+replaced_owner ch v (set_p5 f) = set_p5 f
 replaced_owner ch v power_up = power_up
 
 abbrev pub replaced_call : Chosen → (v : ℕ → ℕ) → Call → Call

@@ -134,8 +134,8 @@ with_other_rows s b = with_transfer (broken b.transfer) (with_store s b)
 
 -- The line.
 
-abbrev pub withP5 : Bool → Line → Line
-withP5 f l = record { title = l.title; verification = l.verification; han = l.han; p5 = f }
+abbrev pub with_p5 : Bool → Line → Line
+with_p5 f l = record { title = l.title; verification = l.verification; han = l.han; p5 = f }
 
 -- The new meter, its name and titles taken as given.
 

@@ -1,6 +1,6 @@
 -- Owner's calls as they are lent: bytes and numbers, of which a call on a meter is made where they are taken.
 use Rattle.std.specs.Prelude.{List, ℕ, eqb}
-use Rattle.model.specs.Calls.{OwnerCall, give_registers, set_value, set_columns, set_period, tick, setP5, power_up}
+use Rattle.model.specs.Calls.{OwnerCall, give_registers, set_value, set_columns, set_period, tick, set_p5, power_up}
 use Rattle.image.specs.Layout.{name_part, register_part}
 use Rattle.image.specs.Lists.{whole_list, list_in}
 use Rattle.owner_calls.specs.Refusals.{wrong_argument, fault_of, sized, is_flag}
@@ -33,5 +33,5 @@ owner_of (value n v) = set_value (record { bytes = n }) v
 owner_of (columns s) = set_columns (list_in name_part s)
 owner_of (period d) = set_period d
 owner_of (clock t) = tick (record { bytes = t })
-owner_of (p5 h) = setP5 (eqb h 1)
+owner_of (p5 h) = set_p5 (eqb h 1)
 owner_of powered = power_up

@@ -6,7 +6,7 @@ use Rattle.model.specs.Demand3.{Chosen, Alike, AlikeCalls, SameOutcomes, Handed,
 use Rattle.meter.specs.declared.Meter.{Meter}
 use Rattle.meter.specs.declared.Changed.{Changed}
 use Rattle.meter.specs.View.{view}
-use Rattle.meter.specs.Promise.{Owned, handed as handedByOwner}
+use Rattle.meter.specs.Promise.{Owned, handed as handed_by_owner}
 use Rattle.protocol.specs.Decide.{p2}
 use Rattle.ending.specs.declared.Received.{Received}
 use Rattle.ending.specs.Handed.{handed}
@@ -15,7 +15,7 @@ use Rattle.p2.specs.Promise.{Answered}
 -- what the function behind a call ensures, on this meter, of what it hands back
 pub data Ensured (m : Meter) : Call → Handed Meter view → Type 0 where
   receives : (a : Lent) (before after : List ℕ) (r : Received) → Answered a m before after r → Ensured m (frame a) (handed r before after)
-  owns : (c : OwnerCall) (r : Changed) → Owned c m r → Ensured m (owner c) (handedByOwner r)
+  owns : (c : OwnerCall) (r : Changed) → Owned c m r → Ensured m (owner c) (handed_by_owner r)
 
 -- a list of calls is made: "each call gets the meter that the last one handed back"
 pub data Runs : Meter → List Call → List (Handed Meter view) → Type 0 where

@@ -24,7 +24,7 @@ use Rattle.model.specs.Services.{offered, common}
 use Rattle.model.specs.State.{Association, none as unassociated, pending, associated, CipheringPeer, Line, Model, with_line}
 use Rattle.model.specs.Soundness.{is_none, sound}
 use Rattle.model.specs.Objects.{challenge_of, denied, action_answer}
-use Rattle.model.specs.Calls.{Lent, frame as frameCall, Outcome, decided, settled, settles}
+use Rattle.model.specs.Calls.{Lent, frame as frame_call, Outcome, decided, settled, settles}
 use Rattle.hdlc.specs.declared.Head.{Head}
 use Rattle.hdlc.specs.Replies.{apdu_frame}
 use Rattle.axdr.specs.Values.{greatest_depth, layout_of, value_within, value_end}
@@ -57,7 +57,7 @@ use Rattle.envelope.proofs.ProofLaws.{length_proof, proof_right}
 use Rattle.envelope.proofs.RoundTrip.{opens_closed}
 use Rattle.protocol.specs.declared.Secrets.{Secrets}
 use Rattle.protocol.specs.Clients.{ciphering, linked, with_association, associates, counters, with_counters, held, agreed_in, key_in, client_challenge, lent_keys, is_associated}
-use Rattle.protocol.specs.Rulings.{none, plain, proof as proofText, proved_text, encloses, Ruling, says, decision}
+use Rattle.protocol.specs.Rulings.{none, plain, proof as proof_text, proved_text, encloses, Ruling, says, decision}
 use Rattle.protocol.specs.Decide.{accepted_ciphered, is_challenge, proof_in, proves_itself, proved, disproved, challenged, challenge_enclosed, conversed, carried, secrets_of, p2}
 use Rattle.protocol.specs.Outcomes.{outcome, head_in, said}
 use Rattle.protocol.specs.Lazy.{Enough, up, keyed_initiate, aarq_around, challenge_byte, proof_action, Entrance, Allowed, Enters, without_transfer, LetInCiphering, CipheringLetIn, Proving, WrongStepsDenied}
@@ -334,7 +334,7 @@ module _ (c : CipherClient) (l : Line) (e : Entrance) where
       let second = taken first.counters in
       says none
       (encloses h []
-      (record { client = c; key = a.guk; ak = a.ak; title = l.title; tag = 0xCF; number = second.number; text = proofText e.invoke first.number e.challenge }))
+      (record { client = c; key = a.guk; ak = a.ak; title = l.title; tag = 0xCF; number = second.number; text = proof_text e.invoke first.number e.challenge }))
       (with_counters c second.counters (associates (Ciphering c) (associated (common e.services (offered (Ciphering c))) e.key) (up (Ciphering c) l))))
   unfolding proved
   proven a h challenge =
@@ -348,12 +348,12 @@ module _ (c : CipherClient) (l : Line) (e : Entrance) where
       let two = taken one.counters in
       says none
       (encloses h []
-      (record { client = c; key = a.guk; ak = a.ak; title = title; tag = 0xCF; number = two.number; text = proofText e.invoke one.number (client_challenge held) }))
+      (record { client = c; key = a.guk; ak = a.ak; title = title; tag = 0xCF; number = two.number; text = proof_text e.invoke one.number (client_challenge held) }))
       (with_counters c two.counters (associates (Ciphering c) (associated (agreed_in held) (key_in held)) line))
       ) in
       ap (λ (y : List ℕ). goes y (held c after) (counters c after) after) (asked_title challenge)
       ∙ ap (λ (p : CipheringPeer). goes l.title p.peer.association p.counters after) (asked_part challenge)
-      ∙ ap (λ (y : Line). says none (encloses h [] (record { client = c; key = a.guk; ak = a.ak; title = l.title; tag = 0xCF; number = second.number; text = proofText e.invoke first.number e.challenge })) y)
+      ∙ ap (λ (y : Line). says none (encloses h [] (record { client = c; key = a.guk; ak = a.ak; title = l.title; tag = 0xCF; number = second.number; text = proof_text e.invoke first.number e.challenge })) y)
       (replaced c second.counters n x (associated (common e.services (offered (Ciphering c))) e.key) (up (Ciphering c) l))
 
 module _ (c : CipherClient) (m : Model) (e : Entrance) (link aarq proof : Lent) (s : sound m ≡ true) (eight : length (ciphering c m.line).peer.title ≡ 8) (enough₁ : Enough link) (enough₂ : Enough aarq) (enough₃ : Enough proof) (ok : Allowed e) (enters : Enters c (ciphering c m.line).peer.title e link aarq proof) where
@@ -400,7 +400,7 @@ module _ (c : CipherClient) (m : Model) (e : Entrance) (link aarq proof : Lent) 
       ∙ ap (λ (r : Ruling). settles (decided p2 (decision r) m₁)) (reached ∙ carries ∙ begun c l e (secrets_of aarq) (head_in aarq))
 
   second_sound : sound m₂ ≡ true
-  second_sound = ap sound (sym second_settled) ∙ ap (λ (o : Outcome). sound o.next) (sym aarq_outcome) ∙ p2_stays_sound (frameCall aarq) m₁ first_sound
+  second_sound = ap sound (sym second_settled) ∙ ap (λ (o : Outcome). sound o.next) (sym aarq_outcome) ∙ p2_stays_sound (frame_call aarq) m₁ first_sound
 
   proof_outcome : outcome proof m₂
       ≡ (let number = next_counter (next_counter sent) in

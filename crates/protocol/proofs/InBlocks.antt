@@ -18,7 +18,7 @@ use Rattle.model.specs.Selecting.{Selection}
 use Rattle.model.specs.State.{Association, profile, idle, running, Line, Body, with_transfer, Model, with_line}
 use Rattle.model.specs.Soundness.{is_none, on_link, allowed, sound}
 use Rattle.model.specs.Objects.{get, Inquiry, ask, go_on, Result, granted, begun, denied, Request, block_answer, Turn, get_answer, turned}
-use Rattle.model.specs.Calls.{Lent, frame as frameCall, Outcome, Decision, answer, serve, decided, settles}
+use Rattle.model.specs.Calls.{Lent, frame as frame_call, Outcome, Decision, answer, serve, decided, settles}
 use Rattle.model.specs.Blocks.{refusal_bytes, refused_by}
 use Rattle.model.proofs.ListLaws.{both}
 use Rattle.model.proofs.SoundnessLaws.{sound_passes}
@@ -36,7 +36,7 @@ use Rattle.envelope.specs.Opening.{opens}
 use Rattle.protocol.specs.Clients.{selective_in, blocks_in}
 use Rattle.protocol.specs.Rulings.{data_while_down, dm, Ruling, says, refused_malformed, decision}
 use Rattle.protocol.specs.Decide.{accepted_plain, accepted_ciphered, accepted, advanced, proved, disproved, conversed, carried, secrets_of, ruled, decide, p2}
-use Rattle.protocol.specs.Outcomes.{outcome, head_in, apdu_in, MaySend, get as mayGet, replied}
+use Rattle.protocol.specs.Outcomes.{outcome, head_in, apdu_in, MaySend, get as may_get, replied}
 use Rattle.protocol.specs.Lazy.{Enough, request_frame, Asking}
 use Rattle.protocol.specs.InBlocks.{SealedRead, LongReadBegins, next_request, NoOtherNumbered, NextBlockRead, SecondBlockRead, AsksByNumber, NumbersRefused, MalformedWithoutTheBit, too_long, LongWithoutTheBit, NoneTooLong}
 use Rattle.protocol.proofs.KindLaws.{asked_kind, is_read}
@@ -88,7 +88,7 @@ second_block_read a b m s p rs counter next invoke other i j =
       second =
           next_block_read b (outcome a m).next (profile p) 1 next other
           (record {
-            is_sound = p2_stays_sound (frameCall a) m i.is_sound;
+            is_sound = p2_stays_sound (frame_call a) m i.is_sound;
             runs = ap (λ (n : Model). n.body.transfer) e;
             small = lit< tt;
             asks = rw e j;
@@ -121,7 +121,7 @@ module _ (a : Lent) (m : Model) (invoke number : ℕ) (s : sound m ≡ true) (sm
     up_of_v = go m.line.verification.up (both (on_link m.line.verification) (on_link m.line.han.peer) (sound_passes m s AssociationOnLink)).0
       where
         some : {x : Association} → MaySend Verification x (PlainRequest Get) → is_none x ≡ false
-        some (mayGet e) = refl
+        some (may_get e) = refl
 
         go : (b : Bool) → b || is_none m.line.verification.association ≡ true → b ≡ true
         go true e = refl

@@ -49,8 +49,8 @@ use Rattle.counters.specs.Window.{in_window}
 use Rattle.envelope.specs.Opening.{Opened, fails, opens, opened}
 use Rattle.protocol.specs.declared.Secrets.{Secrets}
 use Rattle.protocol.specs.Clients.{ciphering, peer, with_peer, linked, associates, counters, agreed_in, blocks_in, lent_keys, dedicated_keys, permitted, bit_agreed, is_unknown}
-use Rattle.protocol.specs.Rulings.{Test, none as noTest, frame, link_up_with_information, p5_holds_v, link_down_while_down, data_while_down, unknown_tag, tag_not_permitted, bit_not_agreed, envelope_unopened, outside_window, malformed_apdu, not_the_challenge, refusal_of, nothing, ua, dm, reject, apdu, Ruling, says, asks, refused_aarq}
-use Rattle.protocol.specs.Decide.{held_byP5, link_up, link_down, accepted_plain, accepted_ciphered, initiated, enclosed, associating, released, wrap, request_of, asked, accepted, advanced, asked_inside, is_challenge, proves_itself, proved, disproved, challenged, answered_challenge, admitted, challenge_enclosed, request_enclosed, by_tag, conversed, carried, heard, secrets_of, ruled}
+use Rattle.protocol.specs.Rulings.{Test, none as no_test, frame, link_up_with_information, p5_holds_v, link_down_while_down, data_while_down, unknown_tag, tag_not_permitted, bit_not_agreed, envelope_unopened, outside_window, malformed_apdu, not_the_challenge, refusal_of, nothing, ua, dm, reject, apdu, Ruling, says, asks, refused_aarq}
+use Rattle.protocol.specs.Decide.{held_by_p5, link_up, link_down, accepted_plain, accepted_ciphered, initiated, enclosed, associating, released, wrap, request_of, asked, accepted, advanced, asked_inside, is_challenge, proves_itself, proved, disproved, challenged, answered_challenge, admitted, challenge_enclosed, request_enclosed, by_tag, conversed, carried, heard, secrets_of, ruled}
 use Rattle.protocol.specs.Outcomes.{head_in, apdu_in, tag_sent, Heard, Reaches, MaySend, Unreached, Timely, Opens, by_guk, by_key, Brings, Accepted, Outside, Misshapen, unreadable, without_the_bit, Excepted, ExceptedInside, malformed_proof, malformed_request}
 use Rattle.protocol.specs.Outcomes as out
 use Rattle.protocol.proofs.MayLaws.{may, may_permitted, may_agreed}
@@ -63,8 +63,8 @@ pub data Leaf (l : Line) (a : Lent) : Ruling → Type 0 where
   -- 10
   no_link : (x : Test) {c : Client} → Heard a c → refusal_of x ≡ 10 → Leaf l a (says x (dm (head_in a)) l)
   -- links
-  goes_up : (c : Client) → Heard a c → held_byP5 c l ≡ false → Leaf l a (says noTest (ua (head_in a)) (with_peer c (linked true (peer c l)) l))
-  goes_down : (c : Client) → Heard a c → (peer c l).up ≡ true → Leaf l a (says noTest (ua (head_in a)) (with_peer c (linked false (peer c l)) l))
+  goes_up : (c : Client) → Heard a c → held_by_p5 c l ≡ false → Leaf l a (says no_test (ua (head_in a)) (with_peer c (linked true (peer c l)) l))
+  goes_down : (c : Client) → Heard a c → (peer c l).up ≡ true → Leaf l a (says no_test (ua (head_in a)) (with_peer c (linked false (peer c l)) l))
   -- 12, outside an envelope
   excepts : (x : Test) {c : Client} {e : Exception} → refusal_of x ≡ 12 → Reaches a l c → Excepted a l c e
       → Leaf l a (says x (apdu (head_in a) (exception_bytes e)) l)
@@ -73,7 +73,7 @@ pub data Leaf (l : Line) (a : Lent) : Ruling → Type 0 where
   associates_plain : (proposed : List ℕ) → Timely a l Verification Aarq → Leaf l a (accepted_plain l (head_in a) proposed)
   begins : (c : CipherClient) (client key proposed : List ℕ) (n : ℕ) → Timely a l (Ciphering c) Aarq
       → Leaf l a (accepted_ciphered l (secrets_of a) c (head_in a) client key proposed n)
-  releases : (c : Client) → Timely a l c Rlrq → Leaf l a (says noTest (apdu (head_in a) release_response) (associates c none l))
+  releases : (c : Client) → Timely a l c Rlrq → Leaf l a (says no_test (apdu (head_in a) release_response) (associates c none l))
   -- the body is asked; by a numbered request of V on no sound line (proofs/Settling)
   serves : (q : Asked) → Timely a l Verification (PlainRequest Get) → read_service Get (apdu_in a) ≡ Asks q
       → Leaf l a (asks (request_of l Verification (apdu_in a) q) (wrap a.ak Verification (head_in a) 0xC0) l)
@@ -111,7 +111,7 @@ module _ (l : Line) (a : Lent) where
   unfolding link_up
   leaf_up c from i =
       by_test Is i (λ _. no_link link_up_with_information from refl) λ _.
-      by_test Is (held_byP5 c l) (λ _. no_link p5_holds_v from refl) (goes_up c from)
+      by_test Is (held_by_p5 c l) (λ _. no_link p5_holds_v from refl) (goes_up c from)
 
   leaf_down : (c : Client) → Heard a c → Is (link_down l c h)
   unfolding link_down

@@ -20,7 +20,7 @@ use Rattle.model.specs.Limits.{longest_sent, longest_received, reply_room, great
 use Rattle.model.specs.Services.{offered, common}
 use Rattle.model.specs.State.{associated, Line, Model, with_line, new_meter}
 use Rattle.model.specs.Soundness.{sound}
-use Rattle.model.specs.Calls.{Lent, lent_refusal, frame as frameCall, Outcome, decided, settled, settles, act, step}
+use Rattle.model.specs.Calls.{Lent, lent_refusal, frame as frame_call, Outcome, decided, settled, settles, act, step}
 use Rattle.model.proofs.StaySound.{new_meter_sound, settled_stays}
 use Rattle.hdlc.specs.declared.Head.{Head}
 use Rattle.hdlc.specs.declared.Frame.TheVariants.{LinkUp}
@@ -40,8 +40,8 @@ use Rattle.acse.proofs.LaidLaws.{written}
 use Rattle.acse.proofs.AarqLaws.{plain_accepted, services_there}
 use Rattle.protocol.specs.declared.Secrets.{Secrets}
 use Rattle.protocol.specs.Clients.{associates}
-use Rattle.protocol.specs.Rulings.{none as noTest, p5_holds_v, ua, dm, apdu, says, decision}
-use Rattle.protocol.specs.Decide.{held_byP5, link_up, accepted_plain, conversed, carried, secrets_of, ruled, decide, p2}
+use Rattle.protocol.specs.Rulings.{none as no_test, p5_holds_v, ua, dm, apdu, says, decision}
+use Rattle.protocol.specs.Decide.{held_by_p5, link_up, accepted_plain, conversed, carried, secrets_of, ruled, decide, p2}
 use Rattle.protocol.specs.Examples.{link_up_frame}
 use Rattle.protocol.specs.Outcomes.{outcome, head_in, replied, said}
 use Rattle.protocol.specs.Lazy.{Enough, request_frame, aarq_of_v, LinksUp, up, LinkUpLetsIn, HeldOff, NewMeterLetsIn, Speaks, LinkUpAnswered}
@@ -83,8 +83,8 @@ link_up_read : read_frame link_up_frame ≡ LinkUp Verification (head_of link_up
 unfolding shift steps same_bytes check_of check_from check_byte polynomial longest_received greatest_length format_of hcs_of information_of fcs_of sender_of first_failing refused_frame accepted_frame read_frame
 link_up_read = refl
 
-module _ (c : Client) (m : Model) (a : Lent) (s : sound m ≡ true) (p : held_byP5 c m.line ≡ false) (enough : Enough a) (e : LinksUp c a) where
-  ruled_up : ruled m.line a ≡ says noTest (ua (head_in a)) (up c m.line)
+module _ (c : Client) (m : Model) (a : Lent) (s : sound m ≡ true) (p : held_by_p5 c m.line ≡ false) (enough : Enough a) (e : LinksUp c a) where
+  ruled_up : ruled m.line a ≡ says no_test (ua (head_in a)) (up c m.line)
   unfolding ruled link_up
   ruled_up = rw (e, p)
 
@@ -92,7 +92,7 @@ module _ (c : Client) (m : Model) (a : Lent) (s : sound m ≡ true) (p : held_by
   up_outcome = outcome_ruled a m enough s ∙ ap (λ r. settles (decided p2 (decision r) m)) ruled_up
 
   pub up_sound : sound (settled (with_line (up c m.line) m)) ≡ true
-  up_sound = ap (λ (o : Outcome). sound o.next) (sym up_outcome) ∙ p2_stays_sound (frameCall a) m s
+  up_sound = ap (λ (o : Outcome). sound o.next) (sym up_outcome) ∙ p2_stays_sound (frame_call a) m s
 
 pub held_off : HeldOff
 unfolding ruled link_up
@@ -127,7 +127,7 @@ module _ (title services size : List ℕ) where
 
     -- on a line with V's link up and no association
     aarq_carried : (l : Line) (a : Secrets) (h : Head) → l.verification.title ≡ title
-        → carried (up Verification l) a Verification h (aarq_of_v title services size) ≡ says noTest (apdu h (plain_aare Verification l.title agreed)) (associates Verification (associated agreed []) (up Verification l))
+        → carried (up Verification l) a Verification h (aarq_of_v title services size) ≡ says no_test (apdu h (plain_aare Verification l.title agreed)) (associates Verification (associated agreed []) (up Verification l))
     unfolding carried conversed accepted_plain
     aarq_carried l a h e = rw (tag_aarq, e, aarq_read, aarq_services)
 

@@ -16,7 +16,7 @@ use Rattle.model.specs.Periods.{listed}
 use Rattle.model.specs.State.{none, Model, with_line}
 use Rattle.model.specs.Soundness.{sound}
 use Rattle.model.specs.Objects.{Request, Inquiry, ask, go_on, turned}
-use Rattle.model.specs.Calls.{Lent, lent_refusal, frame as frameCall, Outcome, refused, serve, decided, settled, settles, act, step}
+use Rattle.model.specs.Calls.{Lent, lent_refusal, frame as frame_call, Outcome, refused, serve, decided, settled, settles, act, step}
 use Rattle.model.proofs.ListLaws.{both, every_anywhere}
 use Rattle.model.proofs.StaySound.{settled_stays}
 use Rattle.hdlc.specs.Layout.{frmr}
@@ -130,7 +130,7 @@ rows_hold a m = row_lent a m (Row a m) (refuses 1 refl) (refuses 2 refl) (refuse
 -- The cells.
 
 pub frame_numbers_lem : FrameNumbers
-frame_numbers_lem a m = p2_numbers_allowed (frameCall a) m
+frame_numbers_lem a m = p2_numbers_allowed (frame_call a) m
 
 -- a listed number is at most the greatest
 listed_most : (k n : ℕ) (ns : List ℕ) → every (λ i x. leb x k) 0 ns ≡ true → listed n ns ≡ true → n ≤ k

@@ -41,26 +41,26 @@ use Rattle.envelope.specs.Opening.{Opened, fails, opens, opened}
 use Rattle.envelope.specs.Challenge.{right_proof}
 use Rattle.protocol.specs.declared.Secrets.{Secrets}
 use Rattle.protocol.specs.Clients.{ciphering, peer, with_peer, linked, associates, counters, with_counters, held, agreed_in, key_in, client_challenge, meter_challenge, selective_in, blocks_in, lent_keys, dedicated_keys, permitted, bit_agreed, is_unknown}
-use Rattle.protocol.specs.Rulings.{Text, none as noTest, frame, link_up_with_information, p5_holds_v, link_down_while_down, data_while_down, unknown_tag, tag_not_permitted, bit_not_agreed, envelope_unopened, outside_window, not_the_challenge, wrong_proof, plain, proof, Envelope, closed, nothing, ua, dm, reject, apdu, encloses, Ruling, says, asks, refused_aarq, refused_malformed, decision}
+use Rattle.protocol.specs.Rulings.{Text, none as no_test, frame, link_up_with_information, p5_holds_v, link_down_while_down, data_while_down, unknown_tag, tag_not_permitted, bit_not_agreed, envelope_unopened, outside_window, not_the_challenge, wrong_proof, plain, proof, Envelope, closed, nothing, ua, dm, reject, apdu, encloses, Ruling, says, asks, refused_aarq, refused_malformed, decision}
 
 -- Links.
 
 -- "93 with information, or from V while P5 holds V (an owner's flag): DM. Any other 93: UA (73), link up, the client's
 -- association ended."
-abbrev pub held_byP5 : Client → Line → Bool
-held_byP5 Verification l = l.p5
-held_byP5 (Ciphering c) l = false
+abbrev pub held_by_p5 : Client → Line → Bool
+held_by_p5 Verification l = l.p5
+held_by_p5 (Ciphering c) l = false
 
 unfoldable pub link_up : Line → Client → Head → Bool → Ruling
 link_up l c h information =
     cond information (says link_up_with_information (dm h) l)
-    (cond (held_byP5 c l) (says p5_holds_v (dm h) l)
-    (says noTest (ua h) (with_peer c (linked true (peer c l)) l)))
+    (cond (held_by_p5 c l) (says p5_holds_v (dm h) l)
+    (says no_test (ua h) (with_peer c (linked true (peer c l)) l)))
 
 -- "53: if up, UA, and this client's link and association end; else DM"
 unfoldable pub link_down : Line → Client → Head → Ruling
 link_down l c h =
-    cond (peer c l).up (says noTest (ua h) (with_peer c (linked false (peer c l)) l)) (says link_down_while_down (dm h) l)
+    cond (peer c l).up (says no_test (ua h) (with_peer c (linked false (peer c l)) l)) (says link_down_while_down (dm h) l)
 
 -- Associations.
 
@@ -68,7 +68,7 @@ link_down l c h =
 unfoldable pub accepted_plain : Line → Head → (proposed : List ℕ) → Ruling
 accepted_plain l h proposed =
     let agreed = common proposed (offered Verification) in
-    says noTest (apdu h (plain_aare Verification l.title agreed)) (associates Verification (associated agreed []) l)
+    says no_test (apdu h (plain_aare Verification l.title agreed)) (associates Verification (associated agreed []) l)
 
 -- an envelope of the meter under GUK
 abbrev pub under_guk : Line → Secrets → CipherClient → (tag number : ℕ) → Text → Envelope
@@ -79,7 +79,7 @@ unfoldable pub accepted_ciphered : Line → Secrets → CipherClient → Head �
 accepted_ciphered l a c h client key proposed counter =
     let agreed = common proposed (offered (Ciphering c)) in
     let next = taken (accepting (counters c l) counter) in
-    says noTest
+    says no_test
     (encloses h (ciphered_aare_head (Ciphering c) l.title a.challenge) (under_guk l a c 0x28 next.number (plain (initiate_response agreed))))
     (with_counters c next.counters (associates (Ciphering c) (pending agreed key client a.challenge) l))
 
@@ -111,7 +111,7 @@ associating l a c h s Departs = refused_aarq c h l
 -- "RLRQ is 62 03 80 01 00, answered 63 03 80 01 00, plain, and the state is none"
 unfoldable pub released : Line → Client → Head → List ℕ → Ruling
 released l c h s =
-    cond (is_release s) (says noTest (apdu h release_response) (associates c none l)) (refused_malformed h l)
+    cond (is_release s) (says no_test (apdu h release_response) (associates c none l)) (refused_malformed h l)
 
 -- Requests.
 
@@ -174,7 +174,7 @@ unfoldable pub proved : Line → Secrets → CipherClient → Head → (invoke c
 proved l a c h invoke counter =
     let first = taken (accepting (counters c l) counter) in
     let second = taken first.counters in
-    says noTest
+    says no_test
     (encloses h [] (under_guk l a c 0xCF second.number (proof invoke first.number (client_challenge (held c l)))))
     (with_counters c second.counters (associates (Ciphering c) (associated (agreed_in (held c l)) (key_in (held c l))) l))
 

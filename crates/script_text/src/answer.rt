@@ -98,7 +98,7 @@ fn put_hex(printer: &impl Print, out: &mut [u8; ROOM], output: Output, s: &[u8])
 
 fn put_decimal(printer: &impl Print, out: &mut [u8; ROOM], output: Output, n: u64) -> Output {
     let mut digits = [0u8; 20];
-    let k = text::decimal(n, &mut digits);
+    let k = io::decimal(n, &mut digits);
     put_all(printer, out, output, &digits[..k])
 }
 

@@ -1,12 +1,11 @@
 // Text of the programs that read lines from standard input: the whole input, lines of a text, fields of a line, bytes as two
-// hexadecimal digits each, numbers in decimal, parts of a slice, and printing. What a line means is its program's.
+// hexadecimal digits each, parts of a slice, and printing. What a line means is its program's.
 #![tactic(auto)]
 
 mod fields;
 mod hexadecimal;
 mod input;
 mod lines;
-mod numbers;
 mod parts;
 mod printing;
 
@@ -14,6 +13,5 @@ pub use fields::{byte, bytes, bytes_8, bytes_12, bytes_16, field, letter, number
 pub use hexadecimal::{digit, digits, pair_of};
 pub use input::read_full;
 pub use lines::{after_line, end_from, line_at};
-pub use numbers::decimal;
 pub use parts::{after, all_are, between, first};
 pub use printing::{print, print_bool, print_hex, print_name, print_number};

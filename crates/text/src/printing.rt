@@ -1,7 +1,6 @@
 // Printing to standard output, or to what stands in its place. What cannot be written is lost.
 use crate::fields::{field, letter};
 use crate::hexadecimal::pair_of;
-use crate::numbers::decimal;
 
 pub fn print(printer: &impl Print, s: &[u8]) {
     let _ = printer.write_all(s);
@@ -10,7 +9,7 @@ pub fn print(printer: &impl Print, s: &[u8]) {
 // A number in decimal.
 pub fn print_number(printer: &impl Print, n: u64) {
     let mut digits = [0u8; 20];
-    let k = decimal(n, &mut digits);
+    let k = io::decimal(n, &mut digits);
     print(printer, &digits[..k]);
 }
 

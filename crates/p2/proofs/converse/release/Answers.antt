@@ -6,7 +6,7 @@ use Rattle.protocol.specs.Decide.{released}
 use Rattle.ending.proofs.Endings.{says_line, ends_one}
 use Rattle.line.specs.View.{line_of}
 use Rattle.protocol.specs.Clients.{with_association, peer}
-use Rattle.model.specs.State.{none as noAssociation}
+use Rattle.model.specs.State.{none as no_association}
 use Rattle.ending.specs.Inner.{meter_with}
 use Rattle.p2.proofs.converse.release.Goals as goal
 
@@ -21,4 +21,4 @@ returns c b =
     let l = line_of c.args.line in
     rw (sym c.is_release.ensures ∙ c.if-not-is_release.false)
     (says_line none (apdu c.args.head release_response) (meter_with c.args.line b) refl c.send_release-count.ensures _ c.ended-next.ensures.view refl
-    (ends_one c.ended-next.result c.args.client (with_association noAssociation (peer c.args.client l)) l c.ended-next.ensures.wiped))
+    (ends_one c.ended-next.result c.args.client (with_association no_association (peer c.args.client l)) l c.ended-next.ensures.wiped))
