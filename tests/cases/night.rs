@@ -231,7 +231,7 @@ impl Night {
         let title = self.now.meter.meter().title;
         let constants = [("GUK", &GUK[..]), ("AK", &AUTHENTICATION), ("DEDICATED", &DEDICATED), ("TITLE", &title)];
         let constants: String = constants.iter().map(|(name, bytes)| constant(name, bytes)).collect();
-        let acts: String = self.acts.iter().map(|act| function(&act.name, &act.lines)).collect();
+        let acts: String = self.acts.iter().map(|played| act(&played.name, &played.lines)).collect();
         let play = format!("{HEAD}{constants}{acts}");
         [play.into_bytes(), self.printed.into_bytes()]
     }
@@ -247,7 +247,6 @@ fn greater(line: Line) -> Line {
 
 const HEAD: &str = "// The acts of the night, with what the owner lends and the home display has. Made by tests/cases/make from tests/cases/day.txt;
 // main.rt says what the marks mean.
-use crate::{Scene, walk};
 ";
 
 /// A constant of bytes, broken as the layout of a source file wants it.
@@ -260,12 +259,10 @@ fn constant(name: &str, bytes: &[u8]) -> String {
     }
 }
 
-/// An act as a function: its lines are one text, lent once.
-fn function(name: &str, lines: &[String]) -> String {
-    let text: String = lines.iter().map(|line| format!("        {}\\n\\\n", escaped(line))).collect();
-    format!(
-        "\npub fn {name}(printer: &impl Print, s: Scene) -> Scene {{\n    walk(\n        printer,\n        s,\n        b\"\\\n{text}        \",\n    )\n}}\n"
-    )
+/// An act as a constant: its lines are one text.
+fn act(name: &str, lines: &[String]) -> String {
+    let text: String = lines.iter().map(|line| format!("    {}\\n\\\n", escaped(line))).collect();
+    format!("\npub const {}: &[u8] = b\"\\\n{text}    \";\n", name.to_uppercase())
 }
 
 fn escaped(line: &str) -> String {

@@ -1,21 +1,22 @@
 -- What an AARQ, and an opened initiate request, tell where they are accepted; and that those that are written as specs/ lays
 -- them out are accepted, whatever their free bytes.
-use mathlib.Core.Path.{◌≡◌, refl, sym}
+use mathlib.Core.Path.{◌≡◌, refl, sym, ap}
 use mathlib.Core.Bool.{Bool, true, false, cond}
 use mathlib.Core.List.{List, [], ◌∷◌}
 use Prim.Native.Nat.{ℕ, ◌≤◌}
 use native.Mathlib.Omega.{arith}
 use lib.ListN.{length, take, drop}
 use Rattle.wire.specs.Numbers.{number_high}
-use Rattle.wire.proofs.ReadingLaws.{chosen}
+use Rattle.wire.proofs.ReadingLaws.{chosen, none_never}
 use Rattle.model.specs.declared.Client.{Client}
 use Rattle.model.specs.Limits.{longest_sent, least_size}
 use Rattle.acse.specs.Clients.{ciphers}
 use Rattle.acse.specs.Pieces.{number, is_laid}
 use Rattle.acse.specs.Initiate.{request_end, keyed_request, read_request}
 use Rattle.acse.specs.Aarq.{plain_aarq, ciphered_aarq, read_aarq}
-use Rattle.acse.specs.declared.Aarq.TheVariants.{Plain, Ciphered, Departs}
-use Rattle.acse.specs.declared.InitiateRequest.TheVariants.{Accepted, Departs as Refused}
+use Rattle.acse.specs.declared.Aarq.TheVariants.{Plain, Ciphered}
+use Rattle.acse.specs.declared.InitiateRequest.{InitiateRequest}
+use Rattle.std.specs.Prelude.{Some, None}
 use Rattle.acse.proofs.LaidLaws.{written, laid_told, laid_written, written_there}
 use Rattle.acse.proofs.Layouts.{length_context, length_mechanism, plain_size, plain_services, ciphered_size, ciphered_challenge, ciphered_envelope}
 
@@ -42,31 +43,22 @@ pub record ReadKeyed (s : List ℕ) (key services : ℕ) : Type 0 where
   pub long : length s ≡ 31
   pub enough : least_size longest_sent ≤ number_high (take 2 (drop 29 s))
 
--- the three answers are three
+-- the two kinds are two
 
-departs_plain : {p : ℕ} → Departs ≡ Plain p → ⊥
-departs_plain {p} q = let z : ◌≡◌ {A = ℕ} 0 1 = cc in omega arith
-
-departs_ciphered : {p e : ℕ} → Departs ≡ Ciphered p e → ⊥
-departs_ciphered {p} {e} q = let z : ◌≡◌ {A = ℕ} 0 1 = cc in omega arith
-
-ciphered_plain : {c e p : ℕ} → Ciphered c e ≡ Plain p → ⊥
+ciphered_plain : {c e p : ℕ} → Some (Ciphered c e) ≡ Some (Plain p) → ⊥
 ciphered_plain {c} {e} {p} q = let z : ◌≡◌ {A = ℕ} 0 1 = cc in omega arith
 
-refused_accepted : {k p : ℕ} → Refused ≡ Accepted k p → ⊥
-refused_accepted {k} {p} q = let z : ◌≡◌ {A = ℕ} 0 1 = cc in omega arith
-
 module _ (s : List ℕ) (client : Client) (title : List ℕ) (eight : length title ≡ 8) where
-  pub plain_told : {services : ℕ} → read_aarq s client title ≡ Plain services → ReadPlain s client title services
+  pub plain_told : {services : ℕ} → read_aarq s client title ≡ Some (Plain services) → ReadPlain s client title services
   unfolding read_aarq
   plain_told {services} q = by (ciphers client) refl q
     where
-      by : (b : Bool) → ciphers client ≡ b → cond b (cond (is_laid (ciphered_aarq client title) s 0) (Ciphered 42 54) Departs) (cond (is_laid (plain_aarq client title) s 0) (Plain 47) Departs) ≡ Plain services → ReadPlain s client title services
+      by : (b : Bool) → ciphers client ≡ b → cond b (cond (is_laid (ciphered_aarq client title) s 0) (Some (Ciphered 42 54)) None) (cond (is_laid (plain_aarq client title) s 0) (Some (Plain 47)) None) ≡ Some (Plain services) → ReadPlain s client title services
       by true g h =
-          let t = chosen (is_laid (ciphered_aarq client title) s 0) h departs_plain in
+          let t = chosen (is_laid (ciphered_aarq client title) s 0) h none_never in
           absurd (ciphered_plain t.1)
       by false g h =
-          let t = chosen (is_laid (plain_aarq client title) s 0) h departs_plain in
+          let t = chosen (is_laid (plain_aarq client title) s 0) h none_never in
           let r = laid_told (plain_aarq client title) s 0 t.0 in
           let e = rw (length_context client, length_mechanism client, eight) at r.1 in
           let p = t.1 in
@@ -78,16 +70,16 @@ module _ (s : List ℕ) (client : Client) (title : List ℕ) (eight : length tit
             enough = e.1.1.1.1.1.1.1.1.1.1.1.1.1.0;
           }
 
-  pub ciphered_told : {challenge envelope : ℕ} → read_aarq s client title ≡ Ciphered challenge envelope → ReadCiphered s client title challenge envelope
+  pub ciphered_told : {challenge envelope : ℕ} → read_aarq s client title ≡ Some (Ciphered challenge envelope) → ReadCiphered s client title challenge envelope
   unfolding read_aarq
   ciphered_told {challenge} {envelope} q = by (ciphers client) refl q
     where
-      by : (b : Bool) → ciphers client ≡ b → cond b (cond (is_laid (ciphered_aarq client title) s 0) (Ciphered 42 54) Departs) (cond (is_laid (plain_aarq client title) s 0) (Plain 47) Departs) ≡ Ciphered challenge envelope → ReadCiphered s client title challenge envelope
+      by : (b : Bool) → ciphers client ≡ b → cond b (cond (is_laid (ciphered_aarq client title) s 0) (Some (Ciphered 42 54)) None) (cond (is_laid (plain_aarq client title) s 0) (Some (Plain 47)) None) ≡ Some (Ciphered challenge envelope) → ReadCiphered s client title challenge envelope
       by false g h =
-          let t = chosen (is_laid (plain_aarq client title) s 0) h departs_ciphered in
+          let t = chosen (is_laid (plain_aarq client title) s 0) h none_never in
           absurd (ciphered_plain (sym t.1))
       by true g h =
-          let t = chosen (is_laid (ciphered_aarq client title) s 0) h departs_ciphered in
+          let t = chosen (is_laid (ciphered_aarq client title) s 0) h none_never in
           let r = laid_told (ciphered_aarq client title) s 0 t.0 in
           let e = rw (length_context client, eight) at r.1.1.1.1.1.0 in
           let p = t.1 in
@@ -99,27 +91,33 @@ module _ (s : List ℕ) (client : Client) (title : List ℕ) (eight : length tit
             held = e;
           }
 
-pub keyed_told : (s : List ℕ) {key services : ℕ} → read_request s ≡ Accepted key services → ReadKeyed s key services
+pub keyed_told : (s : List ℕ) {key services : ℕ} → read_request s ≡ Some (record { key = key; services = services }) → ReadKeyed s key services
 unfolding read_request
 keyed_told s {key} {services} q =
-    let t = chosen (is_laid keyed_request s 0) q refused_accepted in
+    let t = chosen (is_laid keyed_request s 0) q none_never in
     let r = laid_told keyed_request s 0 t.0 in
     let p = t.1 in
-    record { key_place = (cc); services_place = (cc); long = r.0; enough = r.1.1.1.1.1.1.1.0 }
+    let e : ◌≡◌ {A = InitiateRequest} (record { key = 3; services = 26 }) (record { key = key; services = services }) = cc in
+    record {
+      key_place = sym (ap (λ (x : InitiateRequest). x.key) e);
+      services_place = sym (ap (λ (x : InitiateRequest). x.services) e);
+      long = r.0;
+      enough = r.1.1.1.1.1.1.1.0;
+    }
 
 -- What is laid out so is accepted.
 
-pub plain_accepted : (client : Client) (title services size : List ℕ) → ciphers client ≡ false → length services ≡ 3 → length size ≡ 2 → least_size longest_sent ≤ number_high size → read_aarq (written (plain_aarq client title) (services ∷ size ∷ [])) client title ≡ Plain 47
+pub plain_accepted : (client : Client) (title services size : List ℕ) → ciphers client ≡ false → length services ≡ 3 → length size ≡ 2 → least_size longest_sent ≤ number_high size → read_aarq (written (plain_aarq client title) (services ∷ size ∷ [])) client title ≡ Some (Plain 47)
 unfolding read_aarq
 plain_accepted client title services size g h k l =
     rw (g, laid_written (plain_aarq client title) (services ∷ size ∷ []) (h, ((k, l), tt)))
 
-pub ciphered_accepted_lem : (client : Client) (title challenge envelope : List ℕ) → ciphers client ≡ true → length challenge ≡ 8 → length envelope ≡ 50 → read_aarq (written (ciphered_aarq client title) (challenge ∷ envelope ∷ [])) client title ≡ Ciphered 42 54
+pub ciphered_accepted_lem : (client : Client) (title challenge envelope : List ℕ) → ciphers client ≡ true → length challenge ≡ 8 → length envelope ≡ 50 → read_aarq (written (ciphered_aarq client title) (challenge ∷ envelope ∷ [])) client title ≡ Some (Ciphered 42 54)
 unfolding read_aarq
 ciphered_accepted_lem client title challenge envelope g h k =
     rw (g, laid_written (ciphered_aarq client title) (challenge ∷ envelope ∷ []) (h, (k, tt)))
 
-pub keyed_accepted : (key services size : List ℕ) → length key ≡ 16 → length services ≡ 3 → length size ≡ 2 → least_size longest_sent ≤ number_high size → read_request (written keyed_request (key ∷ services ∷ size ∷ [])) ≡ Accepted 3 26
+pub keyed_accepted : (key services size : List ℕ) → length key ≡ 16 → length services ≡ 3 → length size ≡ 2 → least_size longest_sent ≤ number_high size → read_request (written keyed_request (key ∷ services ∷ size ∷ [])) ≡ Some (record { key = 3; services = 26 })
 unfolding read_request
 keyed_accepted key services size g h k l =
     rw (laid_written keyed_request (key ∷ services ∷ size ∷ []) (g, (h, ((k, l), tt))))

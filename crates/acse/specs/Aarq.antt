@@ -20,13 +20,13 @@
 --     envelope                54   50 bytes, which the crate envelope opens
 --
 -- Titles have 8 bytes. proofs/Layouts shows that lengths and places are those of the bytes that they speak of.
-use Rattle.std.specs.Prelude.{cond, List, [], ◌∷◌, ◌++◌, ℕ}
+use Rattle.std.specs.Prelude.{cond, List, [], ◌∷◌, ◌++◌, ℕ, Option, Some, None}
 use Rattle.model.specs.declared.Client.{Client}
 use Rattle.acse.specs.Clients.{ciphers, context_name, mechanism_name}
 use Rattle.acse.specs.Pieces.{Piece, fixed, free, is_laid}
 use Rattle.acse.specs.Initiate.{plain_request}
 use Rattle.acse.specs.declared.Aarq.{Aarq}
-use Rattle.acse.specs.declared.Aarq.TheVariants.{Plain, Ciphered, Departs}
+use Rattle.acse.specs.declared.Aarq.TheVariants.{Plain, Ciphered}
 
 -- tag and length, "context name", "calling title"
 abbrev pub aarq_start : (size : ℕ) → Client → (title : List ℕ) → List Piece
@@ -64,8 +64,8 @@ ciphered_aarq client title =
     ++ ciphered_information
 
 -- an AARQ from a client whose title is held: accepted, with the place of the proposed services; or, of a client that ciphers,
--- right as far as it can be read, with the places of the challenge and the envelope; or it departs
-unfoldable pub read_aarq : List ℕ → Client → List ℕ → Aarq
+-- right as far as it can be read, with the places of the challenge and the envelope; or none, where it departs
+unfoldable pub read_aarq : List ℕ → Client → List ℕ → Option Aarq
 read_aarq s client title =
-    cond (ciphers client) (cond (is_laid (ciphered_aarq client title) s 0) (Ciphered 42 54) Departs)
-    (cond (is_laid (plain_aarq client title) s 0) (Plain 47) Departs)
+    cond (ciphers client) (cond (is_laid (ciphered_aarq client title) s 0) (Some (Ciphered 42 54)) None)
+    (cond (is_laid (plain_aarq client title) s 0) (Some (Plain 47)) None)

@@ -15,12 +15,11 @@
 --   5F 1F 04 00, 3 bytes     the agreed services
 --   2 bytes                  the size that the meter tells
 --   00 07                    the name by which logical names are referred to
-use Rattle.std.specs.Prelude.{cond, List, [], ◌∷◌, ◌++◌, ℕ}
+use Rattle.std.specs.Prelude.{cond, List, [], ◌∷◌, ◌++◌, ℕ, Option, Some, None}
 use Rattle.wire.specs.Numbers.{high_first}
 use Rattle.model.specs.Limits.{longest_sent, longest_received, least_size, told_size}
 use Rattle.acse.specs.Pieces.{Piece, fixed, free, number, is_laid}
 use Rattle.acse.specs.declared.InitiateRequest.{InitiateRequest}
-use Rattle.acse.specs.declared.InitiateRequest.TheVariants.{Accepted, Departs}
 
 -- what follows the dedicated key
 abbrev pub request_end : List Piece
@@ -39,9 +38,9 @@ plain_request = fixed (0x01 ∷ []) ∷ fixed (0x00 ∷ []) ∷ request_end
 abbrev pub keyed_request : List Piece
 keyed_request = fixed (0x01 ∷ []) ∷ fixed (0x01 ∷ 0x10 ∷ []) ∷ free 16 ∷ request_end
 
--- the text of an opened envelope, read as the request of a client that ciphers: the places of its key and its services
-unfoldable pub read_request : List ℕ → InitiateRequest
-read_request s = cond (is_laid keyed_request s 0) (Accepted 3 26) Departs
+-- the text of an opened envelope, read as the request of a client that ciphers: the places of its key and its services; or there is none
+unfoldable pub read_request : List ℕ → Option InitiateRequest
+read_request s = cond (is_laid keyed_request s 0) (Some (record { key = 3; services = 26 })) None
 
 -- the response that tells the agreed services
 unfoldable pub initiate_response : List ℕ → List ℕ

@@ -9,7 +9,7 @@ mod read;
 pub use clients::{agreed, ciphers, context_name, mechanism_name};
 pub use read::{read_aarq, read_request};
 
-// What a received AARQ comes to.
+// What a received AARQ asks for.
 #[derive(Clone, Copy)]
 pub enum Aarq {
     // From a client that does not cipher, accepted: the place of the three bytes of proposed services.
@@ -17,15 +17,12 @@ pub enum Aarq {
     // From a client that ciphers, right up to its envelope: the places of the eight bytes of its challenge, and of the
     // envelope, which goes to the end.
     Ciphered { challenge: usize, envelope: usize },
-    // Anything else.
-    Departs,
 }
 
-// What the opened initiate request of a client that ciphers comes to.
+// The opened initiate request of a client that ciphers: the places of the sixteen bytes of its dedicated key, and of the three
+// bytes of proposed services.
 #[derive(Clone, Copy)]
-pub enum InitiateRequest {
-    // The places of the sixteen bytes of its dedicated key, and of the three bytes of proposed services.
-    Accepted { key: usize, services: usize },
-    // Anything else.
-    Departs,
+pub struct InitiateRequest {
+    pub key: usize,
+    pub services: usize,
 }

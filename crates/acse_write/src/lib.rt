@@ -11,7 +11,7 @@ use acse::{context_name, mechanism_name};
 use model::Client;
 
 // The size that the meter tells.
-const TOLD_SIZE: u16 = 768;
+const TOLD_SIZE: u32 = 768;
 
 // The AARE of an AARQ that is not accepted.
 pub fn put_rejected(out: &mut [u8], at: usize, client: Client) -> usize
@@ -56,7 +56,7 @@ pub fn put_accepted_head(
     let mechanism = wire_write::put_all(out, requirements, b"\x88\x02\x07\x80");
     let value = put_mechanism(out, mechanism, client);
     let lent = wire_write::put_all(out, value, b"\xAA\x0A\x80\x08");
-    let information = wire_write::put_8(out, lent, challenge);
+    let information = wire_write::put_array(out, lent, challenge);
     wire_write::put_all(out, information, b"\xBE\x23\x04\x21")
 }
 
@@ -67,7 +67,7 @@ pub fn put_initiate_response(out: &mut [u8], at: usize, agreed: &[u8; 3]) -> usi
 {
     let services = wire_write::put_all(out, at, b"\x08\x00\x06\x5F\x1F\x04\x00");
     let size = wire_write::put_all(out, services, agreed);
-    let name = wire_write::put_u16(out, size, TOLD_SIZE);
+    let name = wire_write::put_number::<2>(out, size, TOLD_SIZE);
     wire_write::put_all(out, name, b"\x00\x07")
 }
 
@@ -98,7 +98,7 @@ fn put_title(out: &mut [u8], at: usize, title: &[u8; 8]) -> usize
     ensures { WroteArray 12 out.old at out.new result (title_field title.now) }
 {
     let held = wire_write::put_all(out, at, b"\xA4\x0A\x04\x08");
-    wire_write::put_8(out, held, title)
+    wire_write::put_array(out, held, title)
 }
 
 // The mechanism name.

@@ -1,13 +1,12 @@
 // AES-128 (FIPS 197): the key schedule and the cipher of one block. The state and the eleven round keys are arrays of
-// arrays by value. The rounds go by a table of whole columns, copied once a block, and the key schedule by the substitution
-// table, copied once a key; both are lent to the functions below.
+// arrays by value. The rounds go by a table of whole columns, the final round and the key schedule by the substitution table.
 #![tactic(auto)]
 
 ghost use Rattle.std.specs.Prelude.{◌≡◌};
 ghost use Rattle.aes.specs.State.{state_of, bytes_of};
 ghost use Rattle.aes.specs.Field.{xtime, xor_word};
 ghost use Rattle.aes.specs.Sbox.{sbox, sbox_table};
-ghost use Rattle.aes.specs.Columns.{bytes4, column_of, Columns};
+ghost use Rattle.aes.specs.Columns.{column_of, Columns};
 ghost use Rattle.aes.specs.Cipher.{sub_word, sub_bytes, shift_rows, mix_column, mix_columns, add_round_key, round_of, final_round, cipher};
 ghost use Rattle.aes.specs.KeyExpansion.{next_key, key_expansion};
 ghost use Rattle.aes.specs.Held.{by_columns, columns_of, held_schedule, schedule_of};
@@ -25,18 +24,14 @@ pub struct RoundKey {
 pub fn expand_key(key: [u8; 16]) -> [[[u8; 4]; 4]; 11]
     ensures { result ≡ key_expansion key }
 {
-    let t = SBOX;
-    let first = state_of(key);
-    let mut w = [first; 11];
-    let mut k = first;
-    let mut rc: u8 = 1;
-    let mut i: usize = 0;
-    while i < 10 {
-        let n = next_key(&t, k, rc);
-        k = n;
+    let mut k = state_of(key);
+    let mut w = [k; 11];
+    let mut rc = 1;
+    for next in w[1..].iter_mut() {
+        let n = next_key(k, rc);
         rc = times_x(rc);
-        i = i + 1;
-        w[i] = n;
+        k = n;
+        *next = n;
     }
     w
 }
@@ -52,27 +47,24 @@ pub fn round_keys(key: [u8; 16]) -> [RoundKey; 11]
 pub fn schedule(k: [RoundKey; 11]) -> [[[u8; 4]; 4]; 11]
     ensures { result ≡ schedule_of k }
 {
-    [
-        columns_of(k[0]),
-        columns_of(k[1]),
-        columns_of(k[2]),
-        columns_of(k[3]),
-        columns_of(k[4]),
-        columns_of(k[5]),
-        columns_of(k[6]),
-        columns_of(k[7]),
-        columns_of(k[8]),
-        columns_of(k[9]),
-        columns_of(k[10]),
-    ]
+    k.map(
+        |r: RoundKey| -> [[u8; 4]; 4]
+            ensures { result ≡ columns_of r }
+        { r.into() },
+    )
 }
 
 // The cipher of one block, under a key schedule.
 pub fn encrypt_block(w: [[[u8; 4]; 4]; 11], block: [[u8; 4]; 4]) -> [[u8; 4]; 4]
     ensures { result ≡ cipher w block }
 {
-    let c = COLUMNS;
-    run_rounds(&c, w, block)
+    let mut s = add_round_key(block, w[0]);
+    // Each result is named first: a call that is laid straight into an array variable gets no proof yet.
+    for k in &w[1..10] {
+        let n = round(s, *k);
+        s = n;
+    }
+    final_round(s, w[10])
 }
 
 // Sixteen bytes as a state.
@@ -100,93 +92,48 @@ pub fn bytes_of(s: [[u8; 4]; 4]) -> [u8; 16]
 fn held_schedule(w: [[[u8; 4]; 4]; 11]) -> [RoundKey; 11]
     ensures { result ≡ held_schedule w }
 {
-    [
-        by_columns(w[0]),
-        by_columns(w[1]),
-        by_columns(w[2]),
-        by_columns(w[3]),
-        by_columns(w[4]),
-        by_columns(w[5]),
-        by_columns(w[6]),
-        by_columns(w[7]),
-        by_columns(w[8]),
-        by_columns(w[9]),
-        by_columns(w[10]),
-    ]
+    w.map(
+        |s: [[u8; 4]; 4]| -> RoundKey
+            ensures { result ≡ by_columns s }
+        { s.into() },
+    )
 }
 
-fn by_columns(s: [[u8; 4]; 4]) -> RoundKey
-    ensures { result ≡ by_columns s }
-{
-    RoundKey {
-        a: s[0],
-        b: s[1],
-        c: s[2],
-        d: s[3],
+impl From<[[u8; 4]; 4]> for RoundKey {
+    ghost from_gives = { λ s k. k ≡ by_columns s };
+
+    fn from(s: [[u8; 4]; 4]) -> RoundKey {
+        let [a, b, c, d] = s;
+        RoundKey { a, b, c, d }
     }
 }
 
-fn columns_of(k: RoundKey) -> [[u8; 4]; 4]
-    ensures { result ≡ columns_of k }
-{
-    let a = k.a;
-    let b = k.b;
-    let c = k.c;
-    let d = k.d;
-    [a, b, c, d]
-}
+impl From<RoundKey> for [[u8; 4]; 4] {
+    ghost from_gives = { λ k s. s ≡ columns_of k };
 
-fn run_rounds(c: &[u32; 256], w: [[[u8; 4]; 4]; 11], block: [[u8; 4]; 4]) -> [[u8; 4]; 4]
-    requires { Columns c.now }
-    ensures { result ≡ cipher w block }
-{
-    let mut s = add_round_key(block, w[0]);
-    let mut i: usize = 0;
-    while i < 9 {
-        let n = round(c, s, w[i + 1]);
-        s = n;
-        i = i + 1;
+    fn from(k: RoundKey) -> [[u8; 4]; 4] {
+        let RoundKey { a, b, c, d } = k;
+        [a, b, c, d]
     }
-    final_round(c, s, w[10])
 }
 
 // Substitution byte by byte and the moving of bytes may change places, so each column is substituted where it is mixed.
-fn round(c: &[u32; 256], s: [[u8; 4]; 4], k: [[u8; 4]; 4]) -> [[u8; 4]; 4]
-    requires { Columns c.now }
+fn round(s: [[u8; 4]; 4], k: [[u8; 4]; 4]) -> [[u8; 4]; 4]
     ensures { result ≡ round_of s k }
 {
-    add_round_key(mix_substitutes(c, shift_rows(s)), k)
+    add_round_key(mix_substitutes(shift_rows(s)), k)
 }
 
-fn final_round(c: &[u32; 256], s: [[u8; 4]; 4], k: [[u8; 4]; 4]) -> [[u8; 4]; 4]
-    requires { Columns c.now }
+fn final_round(s: [[u8; 4]; 4], k: [[u8; 4]; 4]) -> [[u8; 4]; 4]
     ensures { result ≡ final_round s k }
 {
-    add_round_key(shift_rows(sub_bytes(c, s)), k)
+    add_round_key(shift_rows(sub_bytes(s)), k)
 }
 
-fn sub_bytes(c: &[u32; 256], s: [[u8; 4]; 4]) -> [[u8; 4]; 4]
-    requires { Columns c.now }
+fn sub_bytes(s: [[u8; 4]; 4]) -> [[u8; 4]; 4]
     ensures { result ≡ sub_bytes s }
 {
-    [
-        sub_column(c, s[0]),
-        sub_column(c, s[1]),
-        sub_column(c, s[2]),
-        sub_column(c, s[3]),
-    ]
-}
-
-// A column, substituted: the second byte of what a byte gives is its substitute.
-fn sub_column(c: &[u32; 256], a: [u8; 4]) -> [u8; 4]
-    requires { Columns c.now }
-    ensures { result ≡ sub_word a }
-{
-    let p = column(c, a[0]);
-    let q = column(c, a[1]);
-    let r = column(c, a[2]);
-    let s = column(c, a[3]);
-    [p[1], q[1], r[1], s[1]]
+    s.map(sub_word)
 }
 
 fn shift_rows(s: [[u8; 4]; 4]) -> [[u8; 4]; 4]
@@ -200,50 +147,30 @@ fn shift_rows(s: [[u8; 4]; 4]) -> [[u8; 4]; 4]
     ]
 }
 
-fn mix_substitutes(c: &[u32; 256], s: [[u8; 4]; 4]) -> [[u8; 4]; 4]
-    requires { Columns c.now }
+fn mix_substitutes(s: [[u8; 4]; 4]) -> [[u8; 4]; 4]
     ensures { result ≡ mix_columns (sub_bytes s) }
 {
-    [
-        mix_column(c, s[0]),
-        mix_column(c, s[1]),
-        mix_column(c, s[2]),
-        mix_column(c, s[3]),
-    ]
+    s.map(mix_column)
 }
 
 // A column, substituted and mixed: the sum of what its bytes give, each turned to the byte's own row.
-fn mix_column(c: &[u32; 256], a: [u8; 4]) -> [u8; 4]
-    requires { Columns c.now }
+fn mix_column(a: [u8; 4]) -> [u8; 4]
     ensures { result ≡ mix_column (sub_word a) }
 {
-    let p = column(c, a[0]);
-    let q = column(c, a[1]);
-    let r = column(c, a[2]);
-    let s = column(c, a[3]);
+    let p = column(a[0]);
+    let q = column(a[1]);
+    let r = column(a[2]);
+    let s = column(a[3]);
     let x = xor_word(p, [q[3], q[0], q[1], q[2]]);
     let y = xor_word([r[2], r[3], r[0], r[1]], [s[1], s[2], s[3], s[0]]);
     xor_word(x, y)
 }
 
 // The column that a byte's substitute gives alone, from the first row.
-fn column(c: &[u32; 256], b: u8) -> [u8; 4]
-    requires { Columns c.now }
+fn column(b: u8) -> [u8; 4]
     ensures { result ≡ column_of (sbox b) }
 {
-    word_of(c[b as usize])
-}
-
-// The four bytes of a number, the lowest first.
-fn word_of(x: u32) -> [u8; 4]
-    ensures { result ≡ bytes4 x }
-{
-    [
-        (x % 256) as u8,
-        (x / 0x100 % 256) as u8,
-        (x / 0x1_0000 % 256) as u8,
-        (x / 0x100_0000) as u8,
-    ]
+    columns()[b as usize].to_le_bytes()
 }
 
 fn times_x(a: u8) -> u8
@@ -269,32 +196,24 @@ fn xor_word(a: [u8; 4], b: [u8; 4]) -> [u8; 4]
     [a[0] ^ b[0], a[1] ^ b[1], a[2] ^ b[2], a[3] ^ b[3]]
 }
 
-fn sub_byte(t: &[u8; 256], b: u8) -> u8
-    requires { t.now ≡ sbox_table }
+fn sub_byte(b: u8) -> u8
     ensures { result ≡ sbox b }
 {
-    t[b as usize]
+    substitutes()[b as usize]
 }
 
-fn sub_word(t: &[u8; 256], a: [u8; 4]) -> [u8; 4]
-    requires { t.now ≡ sbox_table }
+fn sub_word(a: [u8; 4]) -> [u8; 4]
     ensures { result ≡ sub_word a }
 {
-    [
-        sub_byte(t, a[0]),
-        sub_byte(t, a[1]),
-        sub_byte(t, a[2]),
-        sub_byte(t, a[3]),
-    ]
+    a.map(sub_byte)
 }
 
 // The round key after k.
-fn next_key(t: &[u8; 256], k: [[u8; 4]; 4], rc: u8) -> [[u8; 4]; 4]
-    requires { t.now ≡ sbox_table }
+fn next_key(k: [[u8; 4]; 4], rc: u8) -> [[u8; 4]; 4]
     ensures { result ≡ next_key k rc }
 {
     let last = k[3];
-    let n = sub_word(t, [last[1], last[2], last[3], last[0]]);
+    let n = sub_word([last[1], last[2], last[3], last[0]]);
     let a = xor_word(k[0], xor_word(n, [rc, 0, 0, 0]));
     let b = xor_word(k[1], a);
     let c = xor_word(k[2], b);
@@ -302,8 +221,20 @@ fn next_key(t: &[u8; 256], k: [[u8; 4]; 4], rc: u8) -> [[u8; 4]; 4]
     [a, b, c, d]
 }
 
+fn substitutes() -> &'static [u8; 256]
+    ensures { result.now ≡ sbox_table }
+{
+    &SBOX
+}
+
+fn columns() -> &'static [u32; 256]
+    ensures { Columns result.now }
+{
+    &COLUMNS
+}
+
 // The substitution table, in the rows of sixteen in which FIPS 197 prints it.
-const SBOX: [u8; 256] = *b"\x63\x7c\x77\x7b\xf2\x6b\x6f\xc5\x30\x01\x67\x2b\xfe\xd7\xab\x76\
+static SBOX: [u8; 256] = *b"\x63\x7c\x77\x7b\xf2\x6b\x6f\xc5\x30\x01\x67\x2b\xfe\xd7\xab\x76\
     \xca\x82\xc9\x7d\xfa\x59\x47\xf0\xad\xd4\xa2\xaf\x9c\xa4\x72\xc0\
     \xb7\xfd\x93\x26\x36\x3f\xf7\xcc\x34\xa5\xe5\xf1\x71\xd8\x31\x15\
     \x04\xc7\x23\xc3\x18\x96\x05\x9a\x07\x12\x80\xe2\xeb\x27\xb2\x75\
@@ -321,7 +252,7 @@ const SBOX: [u8; 256] = *b"\x63\x7c\x77\x7b\xf2\x6b\x6f\xc5\x30\x01\x67\x2b\xfe\
     \x8c\xa1\x89\x0d\xbf\xe6\x42\x68\x41\x99\x2d\x0f\xb0\x54\xbb\x16";
 
 // The column of each substitute: from the lowest byte on its products by 2, 1, 1 and 3.
-const COLUMNS: [u32; 256] = [
+static COLUMNS: [u32; 256] = [
     0xa563_63c6,
     0x847c_7cf8,
     0x9977_77ee,

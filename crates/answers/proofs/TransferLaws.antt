@@ -2,10 +2,10 @@
 use mathlib.Core.Path.{◌≡◌, refl, sym, ap, subst, ◌∙◌}
 use mathlib.Core.Bool.{Bool, true, false, cond, not, ◌&&◌, false≢true}
 use mathlib.Core.List.{List}
-use Prim.Native.Nat.{ℕ, ◌*◌, ◌-◌, ◌≤◌, ◌<◌}
+use Prim.Native.Nat.{ℕ, ◌*◌, ◌≤◌, ◌<◌}
 use native.Mathlib.Omega.{arith}
 use lib.Dec.{eqb, leb}
-use lib.ListN.{length, take, drop, get_or}
+use lib.ListN.{length, take, get_or}
 use Rattle.wire.specs.Wrote.{Wrote}
 use Rattle.wire_write.proofs.WroteLaws.{there}
 use Rattle.model.specs.Limits.{longest_sent, data_room, block_room}
@@ -33,10 +33,10 @@ rows_most s c even full clocks which =
     omega (arith, length_picked s c even full clocks which, product_small (mark_count which s.count) c (omega (arith, n, even.few)) even.narrow)
 
 -- what was written from the first byte on is what stands before the place after it
-pub written_part : {l m bs : List ℕ} {r : ℕ} → Wrote l 0 m r bs → take (r - 0) (drop 0 m) ≡ bs
+pub written_part : {l m bs : List ℕ} {r : ℕ} → Wrote l 0 m r bs → take r m ≡ bs
 written_part {m = m} {bs = bs} {r = r} w =
-    let n : r - 0 ≡ length bs = omega (arith, w.next) in
-    ap (λ (j : ℕ). take j (drop 0 m)) n ∙ there w
+    let n : r ≡ length bs = omega (arith, w.next) in
+    ap (λ (j : ℕ). take j m) n ∙ there w
 
 -- The rows that the code picked anew are those of the transfer: their data go on after block k, which is a small number.
 module _ (s : Store) (r : Rows) (p : Picking) (k which : ℕ) (e : s.rows ≡ entries_of r) (g : rows_allow s (running (profile p) k) ≡ true) (w : marked which (entries_of r) ≡ picked_rows (picked_of p (entries_of r))) where

@@ -1,16 +1,16 @@
 -- What the answer to a request promises: the model's Turn, in the reply buffer and in what becomes of the body of the code.
-use Rattle.std.specs.Prelude.{◌≡◌, Bool, cond, List, ℕ, ◌+◌, ◌≤◌}
+use Rattle.std.specs.Prelude.{◌≡◌, Bool, List, ℕ, ◌+◌, ◌≤◌}
 use Rattle.wire.specs.Wrote.{Wrote}
 use Rattle.model.specs.Limits.{longest_sent, text_room}
 use Rattle.model.specs.declared.Client.{Client}
-use Rattle.model.specs.Objects.{Service, get, action, Turn, Inquiry, ask, go_on}
+use Rattle.model.specs.Objects.{Turn, Inquiry, ask, go_on}
 use Rattle.cosem.specs.Requests.{requested}
 use Rattle.body.specs.declared.BodyState.{BodyState}
 use Rattle.body.specs.Change.{changed_by}
 use Rattle.body.specs.View.{body_of}
-use Rattle.objects.specs.Picks.{parameter_in, selection_in}
 use Rattle.answers.specs.declared.Turned.{Turned}
-use Rattle.answers.specs.declared.Want.{Want}
+use Rattle.answers.specs.declared.transfer.BlockRefusal.{BlockRefusal}
+use Rattle.answers.specs.declared.transfer.BlockRefusal.TheVariants.{Ended, NoneRunning, WrongNumber}
 use Rattle.answers.specs.declared.Inquiry.{Inquiry as Asking}
 use Rattle.answers.specs.declared.Inquiry.TheVariants.{Ask, GoOn}
 
@@ -19,10 +19,12 @@ abbrev pub inquiry_in : Client → (selective blocks : Bool) → List ℕ → As
 inquiry_in c selective blocks s (Ask q) = ask (requested c selective blocks s q)
 inquiry_in c selective blocks s (GoOn invoke number) = go_on invoke number
 
--- the service that is wanted, with the bytes of its value from the APDU
-abbrev pub wanted_by : List ℕ → Want → Service
-wanted_by s w =
-    cond w.reads (get w.number (selection_in s w.selector)) (action w.number (parameter_in s w.argument))
+-- the result code by which a request for a block is refused: "ended meanwhile, code 15; else none running, code 16; wrong block number,
+-- code 19"
+abbrev pub block_code : BlockRefusal → ℕ
+block_code Ended = 15
+block_code NoneRunning = 16
+block_code WrongNumber = 19
 
 -- its number, its bytes from place at on and nothing else of the buffer, no longer than a text may be, and what it makes of the body b
 pub record Turns (t : Turn) (b : BodyState) (l : List ℕ) (at : ℕ) (m : List ℕ) (r : Turned) : Type 0 where

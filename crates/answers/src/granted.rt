@@ -23,10 +23,7 @@ pub fn put_data(out: &mut [u8], at: usize, d: Data, name: Name, body: BodyState)
     match d {
         Data::Name => put_name(out, at, name),
         Data::Plain(x) => put_plain(out, at, x, body),
-        Data::Rows { which } => {
-            let rows = body.rows;
-            put_rows(out, at, rows, which)
-        }
+        Data::Rows { which } => put_rows(out, at, body.rows, which),
         Data::RecordNumber => put_unsigned16(out, at, body.number),
         Data::Value(value) => put_unsigned32(out, at, value),
         Data::ScalerUnit { scaler, unit } => put_scaler_unit(out, at, scaler, unit),
@@ -38,14 +35,13 @@ fn put_plain(out: &mut [u8], at: usize, x: Plain, body: BodyState) -> usize
     requires { at + length (simple_data (plain_as x) (body_of body)) ≤ length out.old }
     ensures { Wrote out.old at out.new result (simple_data (plain_as x) (body_of body)) }
 {
-    let clock = body.clock;
     match x {
-        Plain::Clock => put_clock(out, at, clock),
-        Plain::Time => put_time(out, at, clock),
-        Plain::Date => put_date(out, at, clock),
+        Plain::Clock => put_clock(out, at, body.clock),
+        Plain::Time => put_time(out, at, body.clock),
+        Plain::Date => put_date(out, at, body.clock),
         Plain::Device => {
             let a = wire_write::put_all(out, at, b"\x0A\x10");
-            wire_write::put_16(out, a, &body.device)
+            wire_write::put_array(out, a, &body.device)
         }
     }
 }

@@ -2,23 +2,23 @@
 // writer requires room for its bytes; what is to be written, and how long it is, was decided before the first byte.
 #![tactic(auto)]
 
-ghost use Rattle.std.specs.Prelude.{◌≡◌, true, List, [], ◌∷◌, ℕ, ◌+◌, ◌≤◌, length};
+ghost use Rattle.std.specs.Prelude.{◌≡◌, true, [], ◌∷◌, ◌+◌, ◌≤◌, length};
 ghost use Rattle.wire.specs.Wrote.{Wrote};
 ghost use Rattle.model.specs.Limits.{longest_sent, text_room};
 ghost use Rattle.model.specs.Objects.{action, answered, ask, get, turned};
-ghost use Rattle.cosem.specs.Requests.{requested, service_in};
+ghost use Rattle.cosem.specs.Requests.{requested};
 ghost use Rattle.body.specs.View.{body_of, body_sound};
 ghost use Rattle.objects.specs.Meanings.{found_as, request_as};
 ghost use Rattle.objects.specs.Picks.{parameter_in, selection_in};
-ghost use Rattle.answers.specs.Promise.{Turns, inquiry_in, wanted_by};
+ghost use Rattle.answers.specs.Promise.{Turns, inquiry_in};
 
 use crate::granted::put_data;
 use crate::transfer::{after_read, answer_next, put_rows_block};
 use body::{BodyState, Change};
 use cosem::{Asked, Wanted};
 use model::Client;
-use objects::{Argument, Found, Query, Selector};
-use results::{Invoked, Outcome};
+use objects::{Query, Selector, Served};
+use results::Outcome;
 
 mod granted;
 mod transfer;
@@ -30,22 +30,13 @@ pub enum Inquiry {
     GoOn { invoke: u8, number: u32 },
 }
 
-// The number of the refusal, or 0, the place after the answer, and what becomes of the body.
+// The number of the refusal, or 0, as a call from C hands it out; the place after the answer, and what becomes of the body, of which a
+// refused request has both, too.
 #[derive(Clone, Copy)]
 pub struct Turned {
     pub refusal: u8,
     pub next: usize,
     pub change: Change,
-}
-
-// What a request wants: to read an attribute by a selector, or to invoke a method with an argument. The number is that of the
-// attribute or of the method; a read has no argument, and a method no selector.
-#[derive(Clone, Copy)]
-struct Want {
-    reads: bool,
-    number: u8,
-    selector: Selector,
-    argument: Argument,
 }
 
 // The answer to what a client asked with this APDU; selective access and block transfer were agreed or not.
@@ -93,61 +84,32 @@ fn answer_request(
         class: asked.class,
         name,
     };
-    let registers = body.registers;
-    let found = objects::find(client, name, registers);
-    let wanted = asked.wanted;
-    let want = want_of(wanted);
-    if want.reads {
-        let selector = want.selector;
-        return answer_get(body, found, query, want.number, selector, apdu, out, at);
-    }
-    let argument = want.argument;
-    answer_action(body, found, query, want.number, argument, apdu, out, at)
-}
-
-fn want_of(wanted: Wanted) -> Want
-    ensures { (s : List ℕ) → wanted_by s result ≡ service_in s wanted }
-{
-    match wanted {
-        Wanted::Read { attribute } => read_of(attribute, Selector::All),
+    let found = objects::find(client, name, body.registers);
+    match asked.wanted {
+        Wanted::Read { attribute } => {
+            answer_get(body, found, query, attribute, None, apdu, out, at)
+        }
         Wanted::ReadSelected {
             attribute,
-            selector,
-            at,
-        } => read_of(attribute, Selector::Selected { selector, at }),
-        Wanted::Invoke { method } => invocation_of(method, Argument::Absent),
-        Wanted::InvokeWith { method, at } => invocation_of(method, Argument::Present(at)),
-    }
-}
-
-fn read_of(attribute: u8, selector: Selector) -> Want
-    ensures { (s : List ℕ) → wanted_by s result ≡ get attribute (selection_in s selector) }
-{
-    Want {
-        reads: true,
-        number: attribute,
-        selector,
-        argument: Argument::Absent,
-    }
-}
-
-fn invocation_of(method: u8, argument: Argument) -> Want
-    ensures { (s : List ℕ) → wanted_by s result ≡ action method (parameter_in s argument) }
-{
-    Want {
-        reads: false,
-        number: method,
-        selector: Selector::All,
-        argument,
+            selector: number,
+            at: place,
+        } => {
+            let selector = Selector { number, at: place };
+            answer_get(body, found, query, attribute, Some(selector), apdu, out, at)
+        }
+        Wanted::Invoke { method } => answer_action(body, found, query, method, None, apdu, out, at),
+        Wanted::InvokeWith { method, at: place } => {
+            answer_action(body, found, query, method, Some(place), apdu, out, at)
+        }
     }
 }
 
 fn answer_get(
     body: BodyState,
-    found: Found,
+    found: Option<Served>,
     query: Query,
     attribute: u8,
-    selector: Selector,
+    selector: Option<Selector>,
     apdu: &[u8],
     out: &mut [u8],
     at: usize,
@@ -155,36 +117,32 @@ fn answer_get(
     requires { (body_sound (body_of body) ≡ true) × (at + text_room longest_sent ≤ length out.old) }
     ensures { Turns (answered (request_as query (get attribute (selection_in apdu.now selector))) (body_of body) (found_as query.name found) (get attribute (selection_in apdu.now selector))) body out.old at out.new result }
 {
-    let client = query.client;
-    let o = results::read_attribute(body, found, query, attribute, selector, apdu);
-    match o {
-        Outcome::Granted(d) => {
+    match results::read_attribute(body, found, query, attribute, selector, apdu) {
+        Ok(Outcome::Granted(d)) => {
             let a = put_head(out, at, 0xC4, query.invoke, 0x00);
-            let name = query.name;
-            let b = put_data(out, a, d, name, body);
+            let b = put_data(out, a, d, query.name, body);
             Turned {
                 refusal: 0,
                 next: b,
-                change: after_read(client, picks::no_transfer()),
+                change: after_read(query.client, picks::no_transfer()),
             }
         }
-        Outcome::Begun { which } => {
-            let rows = body.rows;
-            let b = put_rows_block(out, at, query.invoke, 1, rows, which);
+        Ok(Outcome::Begun { which }) => {
+            let b = put_rows_block(out, at, query.invoke, 1, body.rows, which);
             let picking = objects::picking_of(selector, apdu);
             Turned {
                 refusal: 0,
                 next: b.next,
-                change: after_read(client, picks::running(picking, 1)),
+                change: after_read(query.client, picks::running(picking, 1)),
             }
         }
-        Outcome::Denied(code) => {
+        Err(denial) => {
             let a = put_head(out, at, 0xC4, query.invoke, 0x01);
-            let b = wire_write::put(out, a, code);
+            let b = wire_write::put(out, a, u8::from(denial));
             Turned {
                 refusal: 13,
                 next: b,
-                change: after_read(client, picks::no_transfer()),
+                change: after_read(query.client, picks::no_transfer()),
             }
         }
     }
@@ -192,10 +150,10 @@ fn answer_get(
 
 fn answer_action(
     body: BodyState,
-    found: Found,
+    found: Option<Served>,
     query: Query,
     method: u8,
-    argument: Argument,
+    argument: Option<usize>,
     apdu: &[u8],
     out: &mut [u8],
     at: usize,
@@ -203,9 +161,8 @@ fn answer_action(
     requires { (body_sound (body_of body) ≡ true) × (at + text_room longest_sent ≤ length out.old) }
     ensures { Turns (answered (request_as query (action method (parameter_in apdu.now argument))) (body_of body) (found_as query.name found) (action method (parameter_in apdu.now argument))) body out.old at out.new result }
 {
-    let o = results::invoke_method(found, query, method, argument, apdu);
-    match o {
-        Invoked::Done => {
+    match results::invoke_method(found, query, method, argument, apdu) {
+        Ok(()) => {
             let a = put_head(out, at, 0xC7, query.invoke, 0x00);
             let b = wire_write::put(out, a, 0x00);
             Turned {
@@ -214,8 +171,8 @@ fn answer_action(
                 change: results::after_method(found),
             }
         }
-        Invoked::Denied(code) => {
-            let a = put_head(out, at, 0xC7, query.invoke, code);
+        Err(denial) => {
+            let a = put_head(out, at, 0xC7, query.invoke, u8::from(denial));
             let b = wire_write::put(out, a, 0x00);
             Turned {
                 refusal: 13,

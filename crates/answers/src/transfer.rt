@@ -1,6 +1,5 @@
 // The transfer of H: what a read leaves of it, and the answer to a request for the next block.
 ghost use Rattle.std.specs.Prelude.{◌≡◌, true, ◌+◌, ◌*◌, ◌-◌, ◌≤◌, length};
-ghost use Rattle.model.specs.declared.Client.TheVariants.{Ciphering};
 ghost use Rattle.model.specs.Limits.{block_room, longest_sent, text_room};
 ghost use Rattle.model.specs.State.{profile, running};
 ghost use Rattle.model.specs.Objects.{Result, after_read, continued, go_on, refused_turn, rows_data, transfer_after, turned};
@@ -12,7 +11,7 @@ ghost use Rattle.blocks.specs.Block.{WroteBlock};
 ghost use Rattle.body.specs.declared.BodyState.{BodyState as AnyBody};
 ghost use Rattle.body.specs.Change.{Makes};
 ghost use Rattle.body.specs.View.{body_of, body_sound};
-ghost use Rattle.answers.specs.Promise.{Turns};
+ghost use Rattle.answers.specs.Promise.{Turns, block_code};
 
 use crate::Turned;
 use blocks::Block;
@@ -24,22 +23,30 @@ use store::Rows;
 // The most that the data of rows take: fifteen rows of sixteen columns.
 const LONGEST_DATA: usize = 1487;
 
+// Why a request for a block is refused. The numbers are the result codes that go out.
+#[derive(Clone, Copy)]
+enum BlockRefusal {
+    // meanwhile, by other rows
+    Ended = 15,
+    NoneRunning = 16,
+    WrongNumber = 19,
+}
+
+impl From<BlockRefusal> for u8 {
+    ghost from_gives = { λ refusal code. code ≡ block_code refusal };
+
+    fn from(refusal: BlockRefusal) -> u8 {
+        refusal as u8
+    }
+}
+
 // What a read of the client makes of the body: it leaves this transfer where it is H's.
 pub fn after_read(client: Client, transfer: Transfer) -> Change
     ensures { (x : Result) → transfer_after x ≡ transfer_of transfer → Makes (after_read client x) result }
 {
     match client {
         Client::Verification => body::unchanged(),
-        Client::Ciphering(c) => after_ciphered_read(c, transfer),
-    }
-}
-
-// The same of a client that ciphers.
-fn after_ciphered_read(client: CipherClient, transfer: Transfer) -> Change
-    ensures { (x : Result) → transfer_after x ≡ transfer_of transfer → Makes (after_read (Ciphering client) x) result }
-{
-    match client {
-        CipherClient::Han => body::leaves(transfer),
+        Client::Ciphering(CipherClient::Han) => body::leaves(transfer),
     }
 }
 
@@ -55,9 +62,9 @@ pub fn put_rows_block(
     requires { EvenRows rows × (1 ≤ k) × (k ≤ 100) × (block_room longest_sent * (k - 1) ≤ length (rows_data (marked which (entries_of rows)))) × (at + text_room longest_sent ≤ length out.old) }
     ensures { WroteBlock invoke k (rows_data (marked which (entries_of rows))) out.old at out.new result }
 {
-    let mut text = [0u8; LONGEST_DATA];
+    let mut text = [0; LONGEST_DATA];
     let size = data::put_rows(&mut text, 0, rows, which);
-    blocks::put_block(out, at, invoke, k, &text[0..size])
+    blocks::put_block(out, at, invoke, k, &text[..size])
 }
 
 // The answer to a request for the block after the one of this number.
@@ -66,23 +73,29 @@ pub fn answer_next(body: BodyState, invoke: u8, number: u32, out: &mut [u8], at:
     ensures { Turns (turned (go_on invoke number) (body_of body)) body out.old at out.new result }
 {
     let transfer = body.transfer;
-    let progress = transfer.progress;
-    match progress {
-        Progress::Ended => refuse(invoke, number, 15, out, at),
-        Progress::Idle => refuse(invoke, number, 16, out, at),
+    match transfer.progress {
+        Progress::Ended => refuse(invoke, number, BlockRefusal::Ended, out, at),
+        Progress::Idle => refuse(invoke, number, BlockRefusal::NoneRunning, out, at),
         Progress::Running => {
-            let picking = transfer.picking;
-            go_on(body, picking, transfer.block, invoke, number, out, at)
+            go_on(
+                body,
+                transfer.picking,
+                transfer.block,
+                invoke,
+                number,
+                out,
+                at,
+            )
         }
     }
 }
 
 // A request for a block is refused, and the transfer forgotten.
-fn refuse(invoke: u8, number: u32, code: u8, out: &mut [u8], at: usize) -> Turned
+fn refuse(invoke: u8, number: u32, refusal: BlockRefusal, out: &mut [u8], at: usize) -> Turned
     requires { at + text_room longest_sent ≤ length out.old }
-    ensures { (b : AnyBody) → Turns (refused_turn invoke number code (body_of b)) b out.old at out.new result }
+    ensures { (b : AnyBody) → Turns (refused_turn invoke number (block_code refusal) (body_of b)) b out.old at out.new result }
 {
-    let next = blocks::put_refusal(out, at, invoke, number, code);
+    let next = blocks::put_refusal(out, at, invoke, number, u8::from(refusal));
     Turned {
         refusal: 13,
         next,
@@ -104,12 +117,11 @@ fn go_on(
     ensures { Turns (continued invoke number (body_of body) (running (profile (picking_of picking)) k)) body out.old at out.new result }
 {
     if number != k {
-        return refuse(invoke, number, 19, out, at);
+        return refuse(invoke, number, BlockRefusal::WrongNumber, out, at);
     }
-    let rows = body.rows;
-    let which = picks::rows_of(rows, picking);
+    let which = picks::rows_of(body.rows, picking);
     let next = k + 1;
-    let b = put_rows_block(out, at, invoke, next, rows, which);
+    let b = put_rows_block(out, at, invoke, next, body.rows, which);
     Turned {
         refusal: 0,
         next: b.next,

@@ -12,38 +12,27 @@ use material::ReadyKeys;
 use model::{CipherClient, Client};
 
 // Whether a request is the ACTION that answers the challenge.
+#[tactic(auto, unfolding(protocol::specs::Decide::is_challenge))]
 pub fn is_challenge(client: CipherClient, text: &[u8], request: Asked) -> bool
     ensures { result ≡ is_challenge client text.now request }
 {
-    if request.class != 15 {
-        return false;
-    }
-    let own = store::challenge_of(client);
-    let name = cosem::name_in(text);
-    if !names::same_name(own, name) {
-        return false;
-    }
-    let wanted = request.wanted;
-    is_first_method(wanted)
+    request.class == 15
+        && names::same_name(store::challenge_of(client), cosem::name_in(text))
+        && is_first_method(request.wanted)
 }
 
 // Whether method 1 is wanted.
 fn is_first_method(wanted: Wanted) -> bool
     ensures { result ≡ on_first_method wanted }
 {
-    match wanted {
-        Wanted::Read { attribute: _ } => false,
-        Wanted::ReadSelected {
-            attribute: _,
-            selector: _,
-            at: _,
-        } => false,
-        Wanted::Invoke { method } => method == 1,
-        Wanted::InvokeWith { method, at: _ } => method == 1,
-    }
+    matches!(
+        wanted,
+        Wanted::Invoke { method: 1 } | Wanted::InvokeWith { method: 1, .. }
+    )
 }
 
 // Whether the parameter is the client's right proof.
+#[tactic(auto, unfolding(line::specs::View::line_of))]
 pub fn proves_itself(
     line: LineState,
     client: CipherClient,
@@ -57,8 +46,7 @@ pub fn proves_itself(
     let title = line::title_of(line, Client::Ciphering(client));
     let challenge = line::meter_challenge(line, client);
     let pair = line::counters_of(line, client);
-    let wanted = request.wanted;
-    let proof = proof_in(text, wanted);
+    let proof = proof_in(text, request.wanted);
     envelope::is_right_proof(keys, title, challenge, pair, counter, proof)
 }
 
@@ -67,13 +55,7 @@ fn proof_in(text: &[u8], wanted: Wanted) -> &[u8]
     ensures { result.now ≡ proof_in text.now wanted }
 {
     match wanted {
-        Wanted::Read { attribute: _ } => &text[0..0],
-        Wanted::ReadSelected {
-            attribute: _,
-            selector: _,
-            at: _,
-        } => &text[0..0],
-        Wanted::Invoke { method: _ } => &text[0..0],
-        Wanted::InvokeWith { method: _, at } => cosem::rest_of(text, at),
+        Wanted::InvokeWith { at, .. } => cosem::rest_of(text, at),
+        Wanted::Read { .. } | Wanted::ReadSelected { .. } | Wanted::Invoke { .. } => &text[..0],
     }
 }

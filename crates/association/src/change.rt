@@ -1,5 +1,7 @@
 // What the line becomes: links up and down, associations begun and ended, counters. An association that ends leaves zeros,
 // and so do challenges that are answered.
+#![tactic(auto, unfolding(line::specs::View::line_of))]
+
 ghost use Rattle.std.specs.Prelude.{◌≡◌, []};
 ghost use Rattle.model.specs.declared.Client.TheVariants.{Verification, Ciphering};
 ghost use Rattle.model.specs.State.{none, «pending» as pending_with, associated};
@@ -19,14 +21,10 @@ pub fn with_link(line: LineState, client: Client, up: bool) -> LineState
 {
     let title = title_of(line, client);
     match client {
-        Client::Verification => {
-            let v = resting(title, up);
-            with_verification(line, v)
-        }
+        Client::Verification => with_verification(line, resting(title, up)),
         Client::Ciphering(c) => {
-            let counters = counters_of(line, c);
-            let k = resting_cipher(title, up, counters);
-            with_cipher(line, c, k)
+            let rested = resting_cipher(title, up, counters_of(line, c));
+            with_cipher(line, c, rested)
         }
     }
 }
@@ -35,17 +33,14 @@ pub fn with_link(line: LineState, client: Client, up: bool) -> LineState
 pub fn ended(line: LineState, client: Client) -> LineState
     ensures { Ends client (associates client none (line_of line)) result }
 {
-    let up = is_up(line, client);
-    with_link(line, client, up)
+    with_link(line, client, is_up(line, client))
 }
 
 // V is associated.
 pub fn associated_plain(line: LineState, agreed: [u8; 3]) -> LineState
     ensures { line_of result ≡ associates Verification (associated agreed []) (line_of line) }
 {
-    let v = line.verification;
-    let w = in_phase(v, Phase::Associated, agreed);
-    with_verification(line, w)
+    with_verification(line, in_phase(line.verification, Phase::Associated, agreed))
 }
 
 // A client that ciphers is pending: its key and both challenges are held.
@@ -60,64 +55,51 @@ pub fn pending(
 ) -> LineState
     ensures { line_of result ≡ with_counters client counters (associates (Ciphering client) (pending_with agreed key theirs ours) (line_of line)) }
 {
-    let p = party_of(line, Client::Ciphering(client));
-    let party = in_phase(p, Phase::Pending, agreed);
-    let k = CipherParty {
-        party,
+    let before = party_of(line, Client::Ciphering(client));
+    let begun = CipherParty {
+        party: in_phase(before, Phase::Pending, agreed),
         key,
         client: theirs,
         meter: ours,
         counters,
     };
-    with_cipher(line, client, k)
+    with_cipher(line, client, begun)
 }
 
 // It is associated: what was agreed and its key stay, and the challenges are wiped.
 pub fn associated_ciphered(line: LineState, client: CipherClient, counters: Counters) -> LineState
     ensures { Proven client counters (line_of line) result }
 {
-    let p = party_of(line, Client::Ciphering(client));
+    let before = party_of(line, Client::Ciphering(client));
     let agreed = agreed_in(line, Client::Ciphering(client));
-    let party = in_phase(p, Phase::Associated, agreed);
-    let key = key_in(line, client);
-    let k = CipherParty {
-        party,
-        key,
+    let proven = CipherParty {
+        party: in_phase(before, Phase::Associated, agreed),
+        key: key_in(line, client),
         client: [0u8; 8],
         meter: [0u8; 8],
         counters,
     };
-    with_cipher(line, client, k)
+    with_cipher(line, client, proven)
 }
 
 // The counters of a client that ciphers.
 pub fn with_counters(line: LineState, client: CipherClient, counters: Counters) -> LineState
     ensures { line_of result ≡ with_counters client counters (line_of line) }
 {
-    let h = cipher_of(line, client);
-    let party = h.party;
-    let key = h.key;
-    let theirs = h.client;
-    let ours = h.meter;
-    let k = CipherParty {
-        party,
-        key,
-        client: theirs,
-        meter: ours,
+    let counted = CipherParty {
         counters,
+        ..cipher_of(line, client)
     };
-    with_cipher(line, client, k)
+    with_cipher(line, client, counted)
 }
 
 // A party whose association has come so far.
 fn in_phase(party: Party, phase: Phase, agreed: [u8; 3]) -> Party
     ensures { result ≡ record { title = party.title; up = party.up; phase = phase; agreed = agreed } }
 {
-    let title = party.title;
     Party {
-        title,
-        up: party.up,
         phase,
         agreed,
+        ..party
     }
 }

@@ -2,7 +2,7 @@
 // refusal of a request for a block has the same head.
 #![tactic(auto)]
 
-ghost use Rattle.std.specs.Prelude.{◌≡◌, cond, ◌∷◌, ◌+◌, ◌*◌, ◌-◌, ◌≤◌, leb, drop, length, take};
+ghost use Rattle.std.specs.Prelude.{cond, ◌∷◌, ◌+◌, ◌*◌, ◌-◌, ◌≤◌, length};
 ghost use Rattle.wire.specs.Numbers.{high_first};
 ghost use Rattle.wire.specs.Wrote.{Wrote};
 ghost use Rattle.model.specs.Limits.{block_room, longest_sent, text_room};
@@ -11,7 +11,7 @@ ghost use Rattle.blocks.specs.Block.{WroteBlock};
 
 use model::BLOCK_ROOM;
 
-// The place after a block, and whether it is the last.
+// The place after a block, and whether it is the last: each block has both.
 #[derive(Clone, Copy)]
 pub struct Block {
     pub next: usize,
@@ -26,30 +26,15 @@ pub fn put_block(out: &mut [u8], at: usize, invoke: u8, k: u32, text: &[u8]) -> 
     let start = BLOCK_ROOM * (k as usize - 1);
     let rest = text.len() - start;
     let last = rest <= BLOCK_ROOM;
-    let size = at_most(rest, BLOCK_ROOM);
+    let size = rest.min(BLOCK_ROOM);
     let a = put_head(out, at, invoke, last, k);
     let b = wire_write::put(out, a, 0x00);
     let c = wire_write::put_length(out, b, size);
-    let next = put_part(out, c, text, start, size);
+    let next = wire_write::put_all(out, c, &text[start..start + size]);
     Block { next, last }
 }
 
-// The smaller of two numbers.
-fn at_most(n: usize, room: usize) -> usize
-    ensures { result ≡ cond (leb n room) n room }
-{
-    if n <= room { n } else { room }
-}
-
-// Bytes of the data from a place on.
-fn put_part(out: &mut [u8], at: usize, text: &[u8], start: usize, size: usize) -> usize
-    requires { (start + size ≤ length text.now) × (at + size ≤ length out.old) }
-    ensures { Wrote out.old at out.new result (take size (drop start text.now)) }
-{
-    wire_write::put_all(out, at, &text[start..start + size])
-}
-
-// A request for a block is refused: a last block with its own number and a code.
+// A request for a block is refused: a last block with its own number and a code, whatever that is: its promise is of every number.
 pub fn put_refusal(out: &mut [u8], at: usize, invoke: u8, number: u32, code: u8) -> usize
     requires { at + 10 ≤ length out.old }
     ensures { Wrote out.old at out.new result (block_refused invoke number code) }
@@ -66,12 +51,6 @@ fn put_head(out: &mut [u8], at: usize, invoke: u8, last: bool, number: u32) -> u
 {
     let a = wire_write::put_all(out, at, b"\xC4\x02");
     let b = wire_write::put(out, a, invoke);
-    let c = wire_write::put(out, b, last_byte(last));
-    wire_write::put_u32(out, c, number)
-}
-
-fn last_byte(last: bool) -> u8
-    ensures { result ≡ cond last 0x01 0x00 }
-{
-    if last { 0x01 } else { 0x00 }
+    let c = wire_write::put(out, b, last as u8);
+    wire_write::put_number::<4>(out, c, number)
 }

@@ -41,6 +41,13 @@ body_sound b =
     && (permitted_period b.period
     && (valid_clock b.clock && (rows_sound (length b.store.columns) b && rows_allow b.store b.transfer))))
 
+-- the tests on a body of the code, but for the transfer's
+unfoldable pub parts_sound : BodyState → Bool
+parts_sound b =
+    accepted_registers (registers_of b.registers)
+    && (accepted_columns (registers_of b.registers) (columns_of b.columns)
+    && (permitted_period b.period && (valid_clock b.clock && rows_sound b.columns.count (body_of b))))
+
 -- what a sound body lets its functions count on: counts are within their arrays, and the period is no zero
 pub record Fit (b : BodyState) : Type 0 where
   pub registers : b.registers.count ≤ 16

@@ -27,10 +27,10 @@ use Rattle.call_tests.specs.declared.LineTest.TheVariants.{LinkUpWithInformation
 use Rattle.call_tests.specs.declared.BodyTest.TheVariants.{NameUnknown, ClassWrong, NotServed, ParameterShape, EntriesWrong, RangeWrong, AnswerTooLong, TransferEnded, NoTransfer, BlockNumber}
 use Rattle.call_tests.specs.declared.CallTest.{CallTest}
 use Rattle.call_tests.specs.declared.CallTest.TheVariants.{Lent as OfLent, Sound as OfState, Frame as OfFrame, Line as OfLine, Body as OfBody}
-use Rattle.call_tests.specs.declared.Finding.{Finding}
-use Rattle.call_tests.specs.declared.Finding.TheVariants.{Fails, Passes}
+use Rattle.call_tests.specs.Finding.{Finding}
+use Rattle.std.specs.Prelude.{codes, Ok, Err}
 use Rattle.call_tests.specs.Tests.{call_fails, call_tests, first_failing, found}
-use Rattle.call_tests.specs.Lines.{number_of, number_found, line_found, letters, spelled}
+use Rattle.call_tests.specs.Lines.{number_of, number_found, line_found, spelled}
 use Rattle.call_tests.specs.Claims.{Stands, AllStand, NamesApart, NoneWhenAccepted, Met, MetWhen, WellLent, wrong_check, ExampleTold}
 use Rattle.call_tests.specs.Road.{heard_finds, lent_finds, state_finds, road_finds}
 use Rattle.call_tests.proofs.TestLaws.{named}
@@ -107,9 +107,9 @@ names_apart = refl
 
 -- The number.
 
-accepted_none : (m : Model) (a : Lent) (x : Finding) → found m a ≡ x → number_found x ≡ 0 → found m a ≡ Passes
-accepted_none m a (Fails t) e n = absurd (false≢true (sym (table t []).0 ∙ eq-eqb (number_of t) 0 n))
-accepted_none m a Passes e n = e
+accepted_none : (m : Model) (a : Lent) (x : Finding) → found m a ≡ x → number_found x ≡ 0 → found m a ≡ Ok tt
+accepted_none m a (Err t) e n = absurd (false≢true (sym (table t []).0 ∙ eq-eqb (number_of t) 0 n))
+accepted_none m a (Ok _) e n = e
 
 pub none_when_accepted : NoneWhenAccepted
 none_when_accepted =
@@ -119,8 +119,8 @@ none_when_accepted =
     }
 
 met_by : (m : Model) (a : Lent) (n : ℕ) → 1 ≤ n → (x : Finding) → found m a ≡ x → number_found x ≡ n → Met m a n
-met_by m a n p (Fails t) e q = record { test = t; row = q; first = named.first m a t e }
-met_by m a n p Passes e q = absurd (let z : 0 ≡ n = q in omega arith)
+met_by m a n p (Err t) e q = record { test = t; row = q; first = named.first m a t e }
+met_by m a n p (Ok _) e q = absurd (let z : 0 ≡ n = q in omega arith)
 
 pub met_when : MetWhen
 met_when =
@@ -131,18 +131,18 @@ met_when =
 
 -- The example.
 
-lent_passes : (m : Model) (a : Lent) → WellLent a → lent_finds m a ≡ Passes
+lent_passes : (m : Model) (a : Lent) → WellLent a → lent_finds m a ≡ Ok tt
 unfolding lent_finds first_failing
 lent_passes m a w =
     rw (le-ltb a.room (reply_room longest_sent) w.room, eq-eqb (length a.guk) 16 w.guk, eq-eqb (length a.ak) 16 w.ak, eq-eqb (length a.challenge) 8 w.challenge) refl
 
-state_passes : (m : Model) (a : Lent) (k : ℕ) (ts : List SoundnessTest) → every (λ i t. passes t m) k ts ≡ true → first_failing (call_fails m a) (map OfState ts) ≡ Passes
+state_passes : (m : Model) (a : Lent) (k : ℕ) (ts : List SoundnessTest) → every (λ i t. passes t m) k ts ≡ true → first_failing (call_fails m a) (map OfState ts) ≡ Ok tt
 unfolding first_failing
 state_passes m a k [] e = refl
 state_passes m a k (t ∷ ts) e = go (passes t m) e (state_passes m a (suc k) ts)
   where
-    go : (p : Bool) → p && every (λ i u. passes u m) (suc k) ts ≡ true → (every (λ i u. passes u m) (suc k) ts ≡ true → first_failing (call_fails m a) (map OfState ts) ≡ Passes)
-        → cond (not p) (Fails (OfState t)) (first_failing (call_fails m a) (map OfState ts)) ≡ Passes
+    go : (p : Bool) → p && every (λ i u. passes u m) (suc k) ts ≡ true → (every (λ i u. passes u m) (suc k) ts ≡ true → first_failing (call_fails m a) (map OfState ts) ≡ Ok tt)
+        → cond (not p) (Err (OfState t)) (first_failing (call_fails m a) (map OfState ts)) ≡ Ok tt
     go true q r = r q
     go false q r = absurd (false≢true q)
 
@@ -155,12 +155,12 @@ example_read : read_frame wrong_check ≡ Unanswered WrongFcs
 unfolding read_frame refused_frame frame_failing sender_of format_of fcs_of check_of check_from check_byte polynomial shift steps
 example_read = refl
 
-example_line : line_found (Fails (OfFrame WrongFcs)) wrong_check ≡ letters "4 wrong-FCS 6"
+example_line : line_found (Err (OfFrame WrongFcs)) wrong_check ≡ codes "4 wrong-FCS 6"
 unfolding line_found spelled
 example_line = refl
 
 pub example_told : ExampleTold
 example_told m a s w e =
     let reads : read_frame a.received ≡ Unanswered WrongFcs = ap read_frame e ∙ example_read in
-    let finds : found m a ≡ Fails (OfFrame WrongFcs) = sound_road m a s w ∙ ap (heard_finds m.line m.body (secrets_of a) a.received) reads in
-    ap (λ x. line_found x a.received) finds ∙ ap (line_found (Fails (OfFrame WrongFcs))) e ∙ example_line
+    let finds : found m a ≡ Err (OfFrame WrongFcs) = sound_road m a s w ∙ ap (heard_finds m.line m.body (secrets_of a) a.received) reads in
+    ap (λ x. line_found x a.received) finds ∙ ap (line_found (Err (OfFrame WrongFcs))) e ∙ example_line

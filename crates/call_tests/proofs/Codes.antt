@@ -13,7 +13,8 @@ use Rattle.model.specs.Blocks.{refused_by}
 use Rattle.call_tests.specs.declared.BodyTest.{BodyTest}
 use Rattle.call_tests.specs.declared.BodyTest.TheVariants.{EntriesWrong, RangeWrong, TransferEnded, NoTransfer, BlockNumber}
 use Rattle.call_tests.specs.declared.CallTest.TheVariants.{Body as OfBody}
-use Rattle.call_tests.specs.declared.Finding.TheVariants.{Fails, Passes}
+use Rattle.std.specs.Prelude.{Ok, Err}
+use Rattle.call_tests.specs.Finding.{Finding}
 use Rattle.call_tests.specs.Tests.{body_tests, first_failing}
 use Rattle.call_tests.specs.Lines.{code_of}
 use Rattle.call_tests.specs.Claims.{result_of, request_fails, CodesRight}
@@ -113,32 +114,32 @@ selector_thirteen (selected k v) = go (eqb k range_selector)
     go false = refl
 
 -- the code of what is found
-by_code : (thirteen t : BodyTest) (r : Result) → Coded thirteen r → result_finds thirteen r ≡ Fails (OfBody t) → r ≡ denied (code_of t)
+by_code : (thirteen t : BodyTest) (r : Result) → Coded thirteen r → result_finds thirteen r ≡ Err (OfBody t) → r ≡ denied (code_of t)
 by_code thirteen t (granted d) e q = absurd (passes_never q)
 by_code thirteen t (begun x d) e q = absurd (passes_never q)
 by_code thirteen t (denied c) e q = let same : code_test thirteen c ≡ t = cc in ap denied (sym e ∙ ap code_of same)
 
-service_code : (q : Request) (b : Body) (w : Meaning) (v : Service) (t : BodyTest) → service_finds q b w v ≡ Fails (OfBody t) → result_of q b w v ≡ denied (code_of t)
+service_code : (q : Request) (b : Body) (w : Meaning) (v : Service) (t : BodyTest) → service_finds q b w v ≡ Err (OfBody t) → result_of q b w v ≡ denied (code_of t)
 service_code q b w (get attribute s) t e =
     by_code (selector_wrong s) t (attribute_read q attribute s b w) (read_coded (selector_wrong s) (selector_thirteen s) q attribute s b w) e
 service_code q b w (action method v) t e = by_code EntriesWrong t (method_invoked q method v w) (invoked_coded EntriesWrong refl q method v w) e
 
 -- a numbered request: the code of what is found by its transfer
-number_code : (i n : ℕ) (b : Body) (x : Transfer) (t : BodyTest) → number_finds n x ≡ Fails (OfBody t) → continued i n b x ≡ refused_turn i n (code_of t) b
+number_code : (i n : ℕ) (b : Body) (x : Transfer) (t : BodyTest) → number_finds n x ≡ Err (OfBody t) → continued i n b x ≡ refused_turn i n (code_of t) b
 number_code i n b idle t e = let same : NoTransfer ≡ t = cc in ap (λ u. refused_turn i n (code_of u) b) same
 number_code i n b ended t e = let same : TransferEnded ≡ t = cc in ap (λ u. refused_turn i n (code_of u) b) same
 number_code i n b (running x k) t e = go (eqb n k) e
   where
-    go : (y : Bool) → cond y Passes (Fails (OfBody BlockNumber)) ≡ Fails (OfBody t) → cond y (next_turn i x k b) (refused_turn i n 19 b) ≡ refused_turn i n (code_of t) b
+    go : (y : Bool) → ◌≡◌ {A = Finding} (cond y (Ok tt) (Err (OfBody BlockNumber))) (Err (OfBody t)) → cond y (next_turn i x k b) (refused_turn i n 19 b) ≡ refused_turn i n (code_of t) b
     go true r = absurd (passes_never r)
     go false r = let same : BlockNumber ≡ t = cc in ap (λ u. refused_turn i n (code_of u) b) same
 
-request_right : (q : Request) (b : Body) (t : BodyTest) → first_failing (request_fails (ask q) b) (map OfBody body_tests) ≡ Fails (OfBody t)
+request_right : (q : Request) (b : Body) (t : BodyTest) → first_failing (request_fails (ask q) b) (map OfBody body_tests) ≡ Err (OfBody t)
     → result_of q b (meaning q.client q.name b.store.registers) q.service ≡ denied (code_of t)
 unfolding first_failing body_finds
 request_right q b t e = service_code q b (meaning q.client q.name b.store.registers) q.service t (sym (body_road q b) ∙ e)
 
-numbered_right : (i n : ℕ) (b : Body) (t : BodyTest) → first_failing (request_fails (go_on i n) b) (map OfBody body_tests) ≡ Fails (OfBody t) → turned (go_on i n) b ≡ refused_by (code_of t) i n b
+numbered_right : (i n : ℕ) (b : Body) (t : BodyTest) → first_failing (request_fails (go_on i n) b) (map OfBody body_tests) ≡ Err (OfBody t) → turned (go_on i n) b ≡ refused_by (code_of t) i n b
 unfolding first_failing turned
 numbered_right i n b t e = number_code i n b b.transfer t (sym (number_road n b.transfer) ∙ e)
 

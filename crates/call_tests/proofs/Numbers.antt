@@ -5,6 +5,7 @@ use mathlib.Core.List.{List, [], ◌∷◌, map}
 use Prim.Native.Nat.{ℕ, suc}
 use lib.Dec.{eqb, ltb}
 use lib.ListN.{length, take, drop}
+use Rattle.std.specs.Prelude.{Option, Some, None}
 use Rattle.wire.specs.Reading.{part}
 use Rattle.model.specs.declared.Client.{Client}
 use Rattle.model.specs.declared.Client.TheVariants.{Verification, Ciphering}
@@ -24,20 +25,18 @@ use Rattle.cosem.specs.declared.Tag.{Tag}
 use Rattle.cosem.specs.declared.Tag.TheVariants.{Aarq, Rlrq, PlainRequest, GlobalAction, DedicatedRequest, Unknown}
 use Rattle.cosem.specs.declared.ServiceKind.{ServiceKind}
 use Rattle.cosem.specs.declared.Reading.{Reading}
-use Rattle.cosem.specs.declared.Reading.TheVariants.{Asks, GoesOn, Malformed}
+use Rattle.cosem.specs.declared.Reading.TheVariants.{Asks, GoesOn}
 use Rattle.cosem.specs.declared.Exception.TheVariants.{ServiceNotAllowed, ServiceUnknown}
 use Rattle.cosem.specs.Tags.{dedicated_tag, tag_in, is_release, release_response, exception_bytes}
 use Rattle.cosem.specs.Requests.{read_action, read_service, requested}
 use Rattle.acse.specs.declared.Aarq.{Aarq as ReadAarq}
-use Rattle.acse.specs.declared.Aarq.TheVariants.{Plain, Ciphered, Departs}
+use Rattle.acse.specs.declared.Aarq.TheVariants.{Plain, Ciphered}
 use Rattle.acse.specs.declared.InitiateRequest.{InitiateRequest}
-use Rattle.acse.specs.declared.InitiateRequest.TheVariants.{Accepted, Departs as RequestDeparts}
 use Rattle.acse.specs.Initiate.{read_request}
 use Rattle.acse.specs.Aarq.{read_aarq}
 use Rattle.counters.specs.Window.{in_window}
 use Rattle.material.specs.Material.{Keys}
 use Rattle.envelope.specs.declared.Shape.{Shape}
-use Rattle.envelope.specs.declared.Shape.TheVariants.{Misshapen, Shaped}
 use Rattle.envelope.specs.Opening.{shape_of, opened_by, Opened, fails, opens, opened}
 use Rattle.protocol.specs.declared.Secrets.{Secrets}
 use Rattle.protocol.specs.Clients.{associates, ciphering, peer, with_peer, linked, counters, agreed_in, blocks_in, lent_keys, dedicated_keys, permitted, bit_agreed, is_unknown}
@@ -48,8 +47,8 @@ use Rattle.call_tests.specs.declared.LineTest.TheVariants.{P5HoldsV, LinkDownWhi
 use Rattle.call_tests.specs.declared.BodyTest.{BodyTest}
 use Rattle.call_tests.specs.declared.BodyTest.TheVariants.{EntriesWrong, BlockNumber}
 use Rattle.call_tests.specs.declared.CallTest.TheVariants.{Lent as OfLent, Sound as OfState, Body as OfBody}
-use Rattle.call_tests.specs.declared.Finding.{Finding}
-use Rattle.call_tests.specs.declared.Finding.TheVariants.{Fails, Passes}
+use Rattle.call_tests.specs.Finding.{Finding}
+use Rattle.std.specs.Prelude.{Ok, Err}
 use Rattle.call_tests.specs.Tests.{initiate_accepted, on_opened, aarq_accepted, call_fails, first_failing}
 use Rattle.call_tests.specs.Lines.{number_found}
 use Rattle.call_tests.specs.Claims.{refusal_in, RightNumber}
@@ -87,7 +86,7 @@ module _ (m : Model) (a : Secrets) (h : Head) where
   number_number i n idle = refl
   number_number i n (running x k) = go (eqb n k)
     where
-      go : (y : Bool) → (cond y (next_turn i x k b) (refused_turn i n 19 b)).refusal ≡ number_found (cond y Passes (Fails (OfBody BlockNumber)))
+      go : (y : Bool) → (cond y (next_turn i x k b) (refused_turn i n 19 b)).refusal ≡ number_found (cond y (Ok tt) (Err (OfBody BlockNumber)))
       go true = refl
       go false = refl
 
@@ -98,27 +97,27 @@ module _ (m : Model) (a : Secrets) (h : Head) where
   bit_number i n w before after true = number_number i n b.transfer
   bit_number i n w before after false = refl
 
-  asked_number : (c : Client) (s : List ℕ) (r : Reading) → N (asked l a c h s r) ≡ number_found (asked_finds l b c s r)
-  asked_number c s Malformed = refl
-  asked_number c s (Asks q) = body_number (requested c _ _ s q)
-  asked_number c s (GoesOn i n) = bit_number i n _ _ _ (blocks_in c l)
+  asked_number : (c : Client) (s : List ℕ) (r : Option Reading) → N (asked l a c h s r) ≡ number_found (asked_finds l b c s r)
+  asked_number c s None = refl
+  asked_number c s (Some (Asks q)) = body_number (requested c _ _ s q)
+  asked_number c s (Some (GoesOn i n)) = bit_number i n _ _ _ (blocks_in c l)
 
-  inside_number : (c : CipherClient) (k : ServiceKind) (n : ℕ) (text : List ℕ) (r : Reading) → N (asked_inside l a c h k n text r) ≡ number_found (asked_finds l b (Ciphering c) text r)
-  inside_number c k n text Malformed = refl
-  inside_number c k n text (Asks q) = body_number (requested (Ciphering c) _ _ text q)
-  inside_number c k n text (GoesOn i j) = bit_number i j _ _ _ (blocks_in (Ciphering c) l)
+  inside_number : (c : CipherClient) (k : ServiceKind) (n : ℕ) (text : List ℕ) (r : Option Reading) → N (asked_inside l a c h k n text r) ≡ number_found (asked_finds l b (Ciphering c) text r)
+  inside_number c k n text None = refl
+  inside_number c k n text (Some (Asks q)) = body_number (requested (Ciphering c) _ _ text q)
+  inside_number c k n text (Some (GoesOn i j)) = bit_number i j _ _ _ (blocks_in (Ciphering c) l)
 
   -- The challenge.
 
-  answer_number : (c : CipherClient) (n : ℕ) (text : List ℕ) (r : Reading) → N (answered_challenge l a c h n text r) ≡ number_found (answer_finds l a c n text r)
+  answer_number : (c : CipherClient) (n : ℕ) (text : List ℕ) (r : Option Reading) → N (answered_challenge l a c h n text r) ≡ number_found (answer_finds l a c n text r)
   unfolding challenged proved disproved
-  answer_number c n text Malformed = refl
-  answer_number c n text (GoesOn i j) = refl
-  answer_number c n text (Asks q) = go (is_challenge c text q) (proves_itself l a c n text q)
+  answer_number c n text None = refl
+  answer_number c n text (Some (GoesOn i j)) = refl
+  answer_number c n text (Some (Asks q)) = go (is_challenge c text q) (proves_itself l a c n text q)
     where
       go : (x y : Bool)
           → N (cond (not x) (says not_the_challenge (apdu h (exception_bytes ServiceNotAllowed)) (accepted c n l)) (cond y (proved l a c h q.invoke n) (disproved l a c h q.invoke n)))
-          ≡ number_found (cond x (cond y Passes (fault WrongProof)) (fault NotTheChallenge))
+          ≡ number_found (cond x (cond y (Ok tt) (fault WrongProof)) (fault NotTheChallenge))
       go true true = refl
       go true false = refl
       go false y = refl
@@ -142,9 +141,9 @@ module _ (m : Model) (a : Secrets) (h : Head) where
       opening fails = refl
       opening (opens n text) = window (in_window (counters c l).accepted n) n text
 
-      go : (x : Shape) → N (admitted l c (opened_by k title tag s x) rules) ≡ number_found (shape_finds x (opened_finds (counters c l).accepted (opened_by k title tag s x) inside))
-      go Misshapen = refl
-      go (Shaped n i j) = opening (opened_by k title tag s (Shaped n i j))
+      go : (x : Option Shape) → N (admitted l c (opened_by k title tag s x) rules) ≡ number_found (shape_finds x (opened_finds (counters c l).accepted (opened_by k title tag s x) inside))
+      go None = refl
+      go (Some x) = opening (opened_by k title tag s (Some x))
 
   challenge_number : (s : List ℕ) (c : CipherClient) → N (challenge_enclosed l a c h s) ≡ number_found (challenge_finds l a s c)
   unfolding challenge_enclosed challenge_finds
@@ -161,25 +160,25 @@ module _ (m : Model) (a : Secrets) (h : Head) where
   -- APDUs.
 
   abbrev aarq_finding : Bool → Finding
-  aarq_finding x = cond x Passes (fault AarqNotAccepted)
+  aarq_finding x = cond x (Ok tt) (fault AarqNotAccepted)
 
-  initiated_number : (c : CipherClient) (client text : List ℕ) (n : ℕ) (r : InitiateRequest) → N (initiated l a c h client text n r) ≡ number_found (aarq_finding (initiate_accepted r))
+  initiated_number : (c : CipherClient) (client text : List ℕ) (n : ℕ) (r : Option InitiateRequest) → N (initiated l a c h client text n r) ≡ number_found (aarq_finding (initiate_accepted r))
   unfolding accepted_ciphered
-  initiated_number c client text n (Accepted i j) = refl
-  initiated_number c client text n RequestDeparts = refl
+  initiated_number c client text n (Some x) = refl
+  initiated_number c client text n None = refl
 
   enclosed_number : (c : CipherClient) (client : List ℕ) (o : Opened) → N (enclosed l a c h client o) ≡ number_found (aarq_finding (on_opened o (λ n text. initiate_accepted (read_request text))))
   enclosed_number c client fails = refl
   enclosed_number c client (opens n text) = initiated_number c client text n (read_request text)
 
-  associating_number : (c : Client) (s : List ℕ) (r : ReadAarq) → N (associating l a c h s r) ≡ number_found (aarq_finding (aarq_accepted l a c s r))
+  associating_number : (c : Client) (s : List ℕ) (r : Option ReadAarq) → N (associating l a c h s r) ≡ number_found (aarq_finding (aarq_accepted l a c s r))
   unfolding accepted_plain
-  associating_number Verification s (Plain p) = refl
-  associating_number Verification s (Ciphered d e) = refl
-  associating_number Verification s Departs = refl
-  associating_number (Ciphering c) s (Plain p) = refl
-  associating_number (Ciphering c) s (Ciphered d e) = enclosed_number c (take 8 (drop d s)) (opened (lent_keys a) (ciphering c l).peer.title 0x21 (drop e s))
-  associating_number (Ciphering c) s Departs = refl
+  associating_number Verification s (Some (Plain p)) = refl
+  associating_number Verification s (Some (Ciphered d e)) = refl
+  associating_number Verification s None = refl
+  associating_number (Ciphering c) s (Some (Plain p)) = refl
+  associating_number (Ciphering c) s (Some (Ciphered d e)) = enclosed_number c (take 8 (drop d s)) (opened (lent_keys a) (ciphering c l).peer.title 0x21 (drop e s))
+  associating_number (Ciphering c) s None = refl
 
   aarq_number : (c : Client) (s : List ℕ) → N (associating l a c h s (read_aarq s c (peer c l).title)) ≡ number_found (aarq_finds l a c s)
   unfolding aarq_finds
@@ -189,7 +188,7 @@ module _ (m : Model) (a : Secrets) (h : Head) where
   unfolding released release_finds
   release_number c s = go (is_release s)
     where
-      go : (x : Bool) → N (cond x (says no_test (apdu h release_response) (associates c none l)) (refused_malformed h l)) ≡ number_found (cond x Passes (fault MalformedApdu))
+      go : (x : Bool) → N (cond x (says no_test (apdu h release_response) (associates c none l)) (refused_malformed h l)) ≡ number_found (cond x (Ok tt) (fault MalformedApdu))
       go true = refl
       go false = refl
 
@@ -228,7 +227,7 @@ module _ (m : Model) (a : Secrets) (h : Head) where
   up_number c true = refl
   up_number c false = go (held_by_p5 c l)
     where
-      go : (x : Bool) → N (cond x (says p5_holds_v (dm h) l) (says no_test (ua h) (with_peer c (linked true (peer c l)) l))) ≡ number_found (cond x (fault P5HoldsV) Passes)
+      go : (x : Bool) → N (cond x (says p5_holds_v (dm h) l) (says no_test (ua h) (with_peer c (linked true (peer c l)) l))) ≡ number_found (cond x (fault P5HoldsV) (Ok tt))
       go true = refl
       go false = refl
 
@@ -236,7 +235,7 @@ module _ (m : Model) (a : Secrets) (h : Head) where
   unfolding link_down link_down_finds
   down_number c = go (peer c l).up
     where
-      go : (x : Bool) → N (cond x (says no_test (ua h) (with_peer c (linked false (peer c l)) l)) (says link_down_while_down (dm h) l)) ≡ number_found (cond x Passes (fault LinkDownWhileDown))
+      go : (x : Bool) → N (cond x (says no_test (ua h) (with_peer c (linked false (peer c l)) l)) (says link_down_while_down (dm h) l)) ≡ number_found (cond x (Ok tt) (fault LinkDownWhileDown))
       go true = refl
       go false = refl
 
@@ -259,7 +258,7 @@ module _ (m : Model) (a : Lent) where
   state_number (t ∷ ts) k o x same = go (passes t m) (state_number ts (suc k) o x same)
     where
       go : (p : Bool) → (cond (every (λ i u. passes u m) (suc k) ts) o (refused 3 m)).refusal ≡ number_found (or_else (first_failing (call_fails m a) (map OfState ts)) x)
-          → (cond (p && every (λ i u. passes u m) (suc k) ts) o (refused 3 m)).refusal ≡ number_found (or_else (cond (not p) (Fails (OfState t)) (first_failing (call_fails m a) (map OfState ts))) x)
+          → (cond (p && every (λ i u. passes u m) (suc k) ts) o (refused 3 m)).refusal ≡ number_found (or_else (cond (not p) (Err (OfState t)) (first_failing (call_fails m a) (map OfState ts))) x)
       go true e = e
       go false e = refl
 
@@ -270,7 +269,7 @@ module _ (m : Model) (a : Lent) where
     where
       go : (r g k c : Bool)
           → (cond (eqb (cond r 1 (cond (not g) 2 (cond (not k) 2 (cond (not c) 2 0)))) 0) o (refused (cond r 1 (cond (not g) 2 (cond (not k) 2 (cond (not c) 2 0)))) m)).refusal
-          ≡ number_found (or_else (cond r (Fails (OfLent ReplyRoom)) (cond (not g) (Fails (OfLent GukLength)) (cond (not k) (Fails (OfLent AkLength)) (cond (not c) (Fails (OfLent ChallengeLength)) Passes)))) x)
+          ≡ number_found (or_else (cond r (Err (OfLent ReplyRoom)) (cond (not g) (Err (OfLent GukLength)) (cond (not k) (Err (OfLent AkLength)) (cond (not c) (Err (OfLent ChallengeLength)) (Ok tt))))) x)
       go true g k c = refl
       go false false k c = refl
       go false true false c = refl

@@ -5,24 +5,24 @@ use mathlib.Core.List.{List}
 use Prim.Native.Nat.{ℕ, ◌-◌, ◌%◌}
 use lib.Dec.{eqb}
 use lib.ListN.{length}
+use Rattle.std.specs.Prelude.{Option, Some, None, is_some}
 use Rattle.hdlc.specs.Layout.{flag, byte, format_of, hcs_of, information_of, fcs_of}
 use Rattle.hdlc.specs.Tests.{fails, meter_side, place_of as frame_place}
 use Rattle.hdlc.specs.declared.FrameTest.{FrameTest}
-use Rattle.hdlc.specs.declared.Place.TheVariants.{Byte, Nowhere}
 use Rattle.call_tests.specs.declared.LentTest.TheVariants.{ReplyRoom, GukLength, AkLength, ChallengeLength}
 use Rattle.hdlc.specs.declared.FrameTest.TheVariants.{ShortFrame, FlagMissing, FrameType, LengthMismatch, LengthEightOrNine, WrongFcs, WrongHcs, EvenAddress, FrmrReceived, OverLength, SegmentBit, PfClear, WrongDestination, WrongSource, UnknownControl, LinkDownWithInformation, ShortInformation, WrongLlc}
 use Rattle.call_tests.specs.declared.LineTest.TheVariants.{LinkUpWithInformation, P5HoldsV, LinkDownWhileDown, DataWhileDown, UnknownTag, TagNotPermitted, BitNotAgreed, AarqNotAccepted, EnvelopeShape, EnvelopeTag, CounterWindow, MalformedApdu, NotTheChallenge, WrongProof}
 use Rattle.call_tests.specs.declared.CallTest.{CallTest}
 use Rattle.call_tests.specs.declared.CallTest.TheVariants.{Lent as OfLent, Sound as OfState, Frame as OfFrame, Line as OfLine, Body as OfBody}
-use Rattle.call_tests.specs.declared.Finding.{Finding}
-use Rattle.call_tests.specs.declared.Finding.TheVariants.{Fails, Passes}
+use Rattle.call_tests.specs.Finding.{Finding}
+use Rattle.std.specs.Prelude.{Ok, Err}
 use Rattle.call_tests.specs.Tests.{found}
 use Rattle.call_tests.specs.Lines.{number_of, number_found, place_of, place_found}
-use Rattle.call_tests.specs.Places.{aspects_of, first_wrong, is_byte, PlacesRight, PlacesOnly, FieldsRight}
+use Rattle.call_tests.specs.Places.{aspects_of, first_wrong, PlacesRight, PlacesOnly, FieldsRight}
 use Rattle.call_tests.proofs.TestLaws.{named}
 
 -- no test's number is 0, and a place goes with 4 and 9 alone
-pub table : (t : CallTest) (f : List ℕ) → (eqb (number_of t) 0 ≡ false) × (is_byte (place_of t f) ≡ (eqb (number_of t) 4 || eqb (number_of t) 9))
+pub table : (t : CallTest) (f : List ℕ) → (eqb (number_of t) 0 ≡ false) × (is_some (place_of t f) ≡ (eqb (number_of t) 4 || eqb (number_of t) 9))
 table (OfLent ReplyRoom) f = (refl, refl)
 table (OfLent GukLength) f = (refl, refl)
 table (OfLent AkLength) f = (refl, refl)
@@ -70,16 +70,16 @@ fields_right f = record { format = refl; destination = refl; source = refl; cont
 
 module _ (f : List ℕ) where
   -- a test with one field
-  one : (w : Bool) (at : ℕ) → w ≡ true → Byte at ≡ cond w (Byte at) Nowhere
+  one : (w : Bool) (at : ℕ) → w ≡ true → Some at ≡ cond w (Some at) None
   one w at e = rw e
 
   -- the flags: the first that is wrong
-  flags : (x y : Bool) (at : ℕ) → not x || not y ≡ true → Byte (cond x at 0) ≡ cond (not x) (Byte 0) (cond (not y) (Byte at) Nowhere)
+  flags : (x y : Bool) (at : ℕ) → not x || not y ≡ true → Some (cond x at 0) ≡ cond (not x) (Some 0) (cond (not y) (Some at) None)
   flags true true at e = absurd (false≢true e)
   flags true false at e = refl
   flags false y at e = refl
 
-  addresses : (x y : Bool) → x || y ≡ true → Byte (cond x 3 4) ≡ cond x (Byte 3) (cond y (Byte 4) Nowhere)
+  addresses : (x y : Bool) → x || y ≡ true → ◌≡◌ {A = Option ℕ} (Some (cond x 3 4)) (cond x (Some 3) (cond y (Some 4) None))
   addresses true y e = refl
   addresses false true e = refl
   addresses false false e = absurd (false≢true e)
@@ -108,9 +108,9 @@ pub places_right : PlacesRight
 places_right m a t e =
     ap (λ x. place_found x a.received) e ∙ place_right a.received t (named.first m a (OfFrame t) e).failed
 
-place_only : (x : Finding) (f : List ℕ) → is_byte (place_found x f) ≡ (eqb (number_found x) 4 || eqb (number_found x) 9)
-place_only (Fails t) f = (table t f).1
-place_only Passes f = refl
+place_only : (x : Finding) (f : List ℕ) → is_some (place_found x f) ≡ (eqb (number_found x) 4 || eqb (number_found x) 9)
+place_only (Err t) f = (table t f).1
+place_only (Ok _) f = refl
 
 pub places_only : PlacesOnly
 places_only m a = place_only (found m a) a.received

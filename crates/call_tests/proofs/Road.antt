@@ -2,11 +2,13 @@
 use mathlib.Core.Path.{◌≡◌, refl, sym, ap, ◌∙◌}
 use mathlib.Core.Bool.{Bool, true, false, cond, not, ◌&&◌, ◌||◌, false≢true}
 use mathlib.Core.List.{List, [], ◌∷◌, ◌++◌, map}
+use Rattle.std.specs.Prelude.{Result as Outcome, Ok, Err}
 use Prim.Native.Nat.{ℕ}
 use native.Mathlib.Omega.{arith}
 use lib.Dec.{eqb, leb}
 use lib.ListN.{length, drop}
 use borrow.Author.Tests.{eqb-true, ne_eqb}
+use Rattle.std.specs.Prelude.{Option, Some, None}
 use Rattle.wire.specs.Reading.{part}
 use Rattle.gcm.specs.Gcm.{authentic, ciphered}
 use Rattle.model.specs.declared.Client.{Client}
@@ -26,8 +28,6 @@ use Rattle.hdlc.specs.declared.Head.{Head}
 use Rattle.hdlc.specs.declared.Frame.{Frame}
 use Rattle.hdlc.specs.declared.Frame.TheVariants.{Unanswered, Rejected, LinkUp, LinkDown, Apdu}
 use Rattle.hdlc.specs.declared.FrameTest.{FrameTest}
-use Rattle.hdlc.specs.declared.Verdict.{Verdict}
-use Rattle.hdlc.specs.declared.Verdict.TheVariants.{Failed, Passed}
 use Rattle.hdlc.specs.Tests.{fails as fails_frame, meter_side, frame_tests, first_failing as frame_failing, FirstOf as FirstOfFrame}
 use Rattle.hdlc.specs.Reading.{read_frame}
 use Rattle.hdlc.proofs.TestLaws.{passes_here, none_fails, fails_first}
@@ -37,14 +37,13 @@ use Rattle.cosem.specs.declared.Tag.TheVariants.{Aarq, Rlrq, PlainRequest, Globa
 use Rattle.cosem.specs.declared.ServiceKind.{ServiceKind}
 use Rattle.cosem.specs.declared.ServiceKind.TheVariants.{Get, Set, Action}
 use Rattle.cosem.specs.declared.Reading.{Reading}
-use Rattle.cosem.specs.declared.Reading.TheVariants.{Asks, GoesOn, Malformed}
+use Rattle.cosem.specs.declared.Reading.TheVariants.{Asks, GoesOn}
 use Rattle.cosem.specs.Tags.{dedicated_tag, tag_in, is_release}
 use Rattle.cosem.specs.Requests.{read_action, read_service, requested}
 use Rattle.acse.specs.Aarq.{read_aarq}
 use Rattle.counters.specs.Window.{in_window}
 use Rattle.material.specs.Material.{Keys, nonce, associated_data}
 use Rattle.envelope.specs.declared.Shape.{Shape}
-use Rattle.envelope.specs.declared.Shape.TheVariants.{Misshapen, Shaped}
 use Rattle.envelope.specs.Opening.{shape_of, Opened, fails as stays, opens, opened_by, opened}
 use Rattle.protocol.specs.declared.Secrets.{Secrets}
 use Rattle.protocol.specs.Clients.{ciphering, peer, counters, agreed_in, selective_in, blocks_in, lent_keys, dedicated_keys, is_pending, is_associated, permitted, bit_agreed, is_unknown}
@@ -53,15 +52,15 @@ use Rattle.call_tests.specs.declared.LineTest.TheVariants.{LinkUpWithInformation
 use Rattle.call_tests.specs.declared.BodyTest.{BodyTest}
 use Rattle.call_tests.specs.declared.BodyTest.TheVariants.{NameUnknown, ClassWrong, NotServed, ParameterShape, EntriesWrong, RangeWrong, AnswerTooLong, TransferEnded, NoTransfer, BlockNumber}
 use Rattle.call_tests.specs.declared.CallTest.TheVariants.{Lent as OfLent, Sound as OfState, Frame as OfFrame, Line as OfLine, Body as OfBody}
-use Rattle.call_tests.specs.declared.Finding.{Finding}
-use Rattle.call_tests.specs.declared.Finding.TheVariants.{Fails, Passes}
+use Rattle.call_tests.specs.Finding.{Finding}
+use Rattle.std.specs.Prelude.{Ok, Err}
 use Rattle.call_tests.specs.Tests.{lent_tests, line_tests, body_tests, on_apdu, on_aarq, on_opened, on_envelope, on_shaped, malformed_in, on_answer, is_misshapen, forged, is_malformed, on_asks, on_inquiry, on_request, aarq_accepted, line_fails, is_nothing, on_object, is_served, is_shaped, belongs, selection_shaped, bad_entries, bad_range, on_selector, too_long, answers_too_long, is_ended, is_idle, on_running, inquiry_fails, call_fails, first_failing, found}
 use Rattle.call_tests.specs.Road.{fault, link_up_finds, link_down_finds, selector_wrong, code_test, result_finds, service_finds, body_finds, number_finds, asked_finds, answer_finds, opened_finds, shape_finds, envelope_finds, challenge_finds, request_finds, aarq_finds, release_finds, by_tag_finds, tested_finds, carried_finds, heard_finds, or_else, lent_finds, state_finds, unsound, rows_finds, body_state_finds, line_state_finds, transfer_finds, road_finds}
 use Rattle.call_tests.proofs.TestLaws.{in_stretches, else_cond, else_three, else_none}
 
 -- a test of the body fails
 abbrev body_fault : BodyTest → Finding
-body_fault t = Fails (OfBody t)
+body_fault t = Err (OfBody t)
 
 -- The body.
 
@@ -86,7 +85,7 @@ module _ (q : Request) (b : Body) where
       (cond (on_object w (λ o. not (is_shaped q o v))) (body_fault ParameterShape)
       (cond (on_selector entry_selector v (bad_entries (length b.store.rows))) (body_fault EntriesWrong)
       (cond (on_selector range_selector v bad_range) (body_fault RangeWrong)
-      (cond (on_object w (λ o. answers_too_long q o b v)) (body_fault AnswerTooLong) Passes))))))
+      (cond (on_object w (λ o. answers_too_long q o b v)) (body_fault AnswerTooLong) (Ok tt)))))))
 
   module _ (o : Object) (attribute : ℕ) where
     -- what the read comes to that is described so
@@ -95,7 +94,7 @@ module _ (q : Request) (b : Body) where
 
     -- rows were picked: they fit, they go out in blocks, or neither
     these_fit : (t : BodyTest) (p : Picking) (rs : List Entry)
-        → cond (too_long q o attribute b (these rs)) (body_fault AnswerTooLong) Passes
+        → cond (too_long q o attribute b (these rs)) (body_fault AnswerTooLong) (Ok tt)
         ≡ result_finds t (fitting q.blocks (begins o.content attribute (picking p)) (attribute_data o.content q.name attribute rs b))
     unfolding fitting code_test
     these_fit t p rs = go (leb (length bytes) (data_room longest_sent)) q.blocks (takes_selector o.content attribute) (runs begun_by) (sym (begins_runs o.content attribute p))
@@ -107,7 +106,7 @@ module _ (q : Request) (b : Body) where
         begun_by = begins o.content attribute (picking p)
 
         go : (x y z r : Bool) → z ≡ r
-            → cond (not x && not (z && y)) (body_fault AnswerTooLong) Passes
+            → cond (not x && not (z && y)) (body_fault AnswerTooLong) (Ok tt)
             ≡ result_finds t (cond x (granted bytes) (cond (y && r) (begun begun_by bytes) (denied 250)))
         go true y z r e = refl
         go false true true true e = refl
@@ -119,33 +118,33 @@ module _ (q : Request) (b : Body) where
 
     -- a range that has its shape, and entries that have theirs
     range_road : (v : List ℕ)
-        → cond (bad_range v) (body_fault RangeWrong) (cond (too_long q o attribute b (picked_by (described_range (from_clock v) (to_clock v)) b.store.rows)) (body_fault AnswerTooLong) Passes)
+        → cond (bad_range v) (body_fault RangeWrong) (cond (too_long q o attribute b (picked_by (described_range (from_clock v) (to_clock v)) b.store.rows)) (body_fault AnswerTooLong) (Ok tt))
         ≡ result_finds RangeWrong (shown_by (described_range (from_clock v) (to_clock v)))
     unfolding code_test described_range
     range_road v = go (good_range (from_clock v) (to_clock v))
       where
         go : (g : Bool)
-            → cond (not g) (body_fault RangeWrong) (cond (too_long q o attribute b (picked_by (cond g (picking (dated (from_clock v) (to_clock v))) (faulty 13)) b.store.rows)) (body_fault AnswerTooLong) Passes)
+            → cond (not g) (body_fault RangeWrong) (cond (too_long q o attribute b (picked_by (cond g (picking (dated (from_clock v) (to_clock v))) (faulty 13)) b.store.rows)) (body_fault AnswerTooLong) (Ok tt))
             ≡ result_finds RangeWrong (shown_by (cond g (picking (dated (from_clock v) (to_clock v))) (faulty 13)))
         go true = these_fit RangeWrong (dated (from_clock v) (to_clock v)) (rows_within (from_clock v) (to_clock v) b.store.rows)
         go false = refl
 
     numbered_road : (p : Picking) (rs : List Entry) (w : Bool)
-        → cond w (body_fault EntriesWrong) (cond (too_long q o attribute b (cond w (wrong 13) (these rs))) (body_fault AnswerTooLong) Passes)
+        → cond w (body_fault EntriesWrong) (cond (too_long q o attribute b (cond w (wrong 13) (these rs))) (body_fault AnswerTooLong) (Ok tt))
         ≡ result_finds EntriesWrong (shown q.blocks (begins o.content attribute (picking p)) o.content q.name attribute b (cond w (wrong 13) (these rs)))
     unfolding code_test
     numbered_road p rs true = refl
     numbered_road p rs false = these_fit EntriesWrong p rs
 
     entries_road : (v : List ℕ)
-        → cond (bad_entries (length b.store.rows) v) (body_fault EntriesWrong) (cond (too_long q o attribute b (picked_by (described_entries v) b.store.rows)) (body_fault AnswerTooLong) Passes)
+        → cond (bad_entries (length b.store.rows) v) (body_fault EntriesWrong) (cond (too_long q o attribute b (picked_by (described_entries v) b.store.rows)) (body_fault AnswerTooLong) (Ok tt))
         ≡ result_finds EntriesWrong (shown_by (described_entries v))
     unfolding code_test described_entries entries
     entries_road v = go (eqb (from_column v) 1 && eqb (to_column v) 0)
       where
         go : (g : Bool)
             → cond (not g || entries_wrong (from_entry v) (to_entry v) (length b.store.rows)) (body_fault EntriesWrong)
-            (cond (too_long q o attribute b (picked_by (cond g (picking (numbered (from_entry v) (to_entry v))) (faulty 13)) b.store.rows)) (body_fault AnswerTooLong) Passes)
+            (cond (too_long q o attribute b (picked_by (cond g (picking (numbered (from_entry v) (to_entry v))) (faulty 13)) b.store.rows)) (body_fault AnswerTooLong) (Ok tt))
             ≡ result_finds EntriesWrong (shown_by (cond g (picking (numbered (from_entry v) (to_entry v))) (faulty 13)))
         go false = refl
         go true =
@@ -157,7 +156,7 @@ module _ (q : Request) (b : Body) where
         → cond (not (belonging && ((x && u) || (y && w)))) (body_fault ParameterShape)
         (cond (y && bad_entries (length b.store.rows) v) (body_fault EntriesWrong)
         (cond (x && bad_range v) (body_fault RangeWrong)
-        (cond (too_long q o attribute b (picked_by (cond (belonging && x && u) (described_range (from_clock v) (to_clock v)) (cond (belonging && y && w) (described_entries v) (faulty 12))) b.store.rows)) (body_fault AnswerTooLong) Passes)))
+        (cond (too_long q o attribute b (picked_by (cond (belonging && x && u) (described_range (from_clock v) (to_clock v)) (cond (belonging && y && w) (described_entries v) (faulty 12))) b.store.rows)) (body_fault AnswerTooLong) (Ok tt))))
         ≡ result_finds (cond x RangeWrong EntriesWrong) (shown_by (cond (belonging && x && u) (described_range (from_clock v) (to_clock v)) (cond (belonging && y && w) (described_entries v) (faulty 12))))
     unfolding code_test
     selected_road v false x y u w n = refl
@@ -173,7 +172,7 @@ module _ (q : Request) (b : Body) where
         → cond (not (selection_shaped (belongs q o attribute) s)) (body_fault ParameterShape)
         (cond (on_selector entry_selector (get attribute s) (bad_entries (length b.store.rows))) (body_fault EntriesWrong)
         (cond (on_selector range_selector (get attribute s) bad_range) (body_fault RangeWrong)
-        (cond (too_long q o attribute b (selected_rows (belongs q o attribute) s b.store.rows)) (body_fault AnswerTooLong) Passes)))
+        (cond (too_long q o attribute b (selected_rows (belongs q o attribute) s b.store.rows)) (body_fault AnswerTooLong) (Ok tt))))
         ≡ result_finds (selector_wrong s) (shown_by (described (belongs q o attribute) s))
     unfolding described
     selection_road all = these_fit EntriesWrong whole b.store.rows
@@ -192,7 +191,7 @@ module _ (q : Request) (b : Body) where
           (cond (not (selection_shaped (belongs q o attribute) s)) (body_fault ParameterShape)
           (cond (on_selector entry_selector (get attribute s) (bad_entries (length b.store.rows))) (body_fault EntriesWrong)
           (cond (on_selector range_selector (get attribute s) bad_range) (body_fault RangeWrong)
-          (cond (too_long q o attribute b (selected_rows (belongs q o attribute) s b.store.rows)) (body_fault AnswerTooLong) Passes)))))
+          (cond (too_long q o attribute b (selected_rows (belongs q o attribute) s b.store.rows)) (body_fault AnswerTooLong) (Ok tt))))))
           ≡ result_finds (selector_wrong s) (cond (not x) (denied 9) (cond (not y) (denied 3) (shown_by o attribute (described (belongs q o attribute) s))))
       go false y = refl
       go true false = refl
@@ -204,7 +203,7 @@ module _ (q : Request) (b : Body) where
   action_road (known o) method v = go (eqb q.class o.class) (serves o.methods method) (good_parameter v)
     where
       go : (x y z : Bool)
-          → cond (not x) (body_fault ClassWrong) (cond (not y) (body_fault NotServed) (cond (not z) (body_fault ParameterShape) Passes))
+          → cond (not x) (body_fault ClassWrong) (cond (not y) (body_fault NotServed) (cond (not z) (body_fault ParameterShape) (Ok tt)))
           ≡ result_finds EntriesWrong (cond (not x) (denied 9) (cond (not y) (denied 3) (cond z (granted []) (denied 12))))
       go false y z = refl
       go true false z = refl
@@ -223,19 +222,19 @@ module _ (q : Request) (b : Body) where
 
 -- the tests of the body, by the transfer
 pub number_road : (n : ℕ) (t : Transfer)
-    → cond (is_ended t) (body_fault TransferEnded) (cond (is_idle t) (body_fault NoTransfer) (cond (on_running t (λ k. not (eqb n k))) (body_fault BlockNumber) Passes))
+    → cond (is_ended t) (body_fault TransferEnded) (cond (is_idle t) (body_fault NoTransfer) (cond (on_running t (λ k. not (eqb n k))) (body_fault BlockNumber) (Ok tt)))
     ≡ number_finds n t
 number_road n idle = refl
 number_road n ended = refl
 number_road n (running x k) = go (eqb n k)
   where
-    go : (y : Bool) → cond (not y) (body_fault BlockNumber) Passes ≡ cond y Passes (body_fault BlockNumber)
+    go : (y : Bool) → cond (not y) (body_fault BlockNumber) (Ok tt) ≡ cond y (Ok tt) (body_fault BlockNumber)
     go true = refl
     go false = refl
 
 -- and by the bit; the tests that are not about it pass
 bit_road : (n : ℕ) (t : Transfer) (y : Bool)
-    → or_else (cond (not y) (fault MalformedApdu) Passes)
+    → or_else (cond (not y) (fault MalformedApdu) (Ok tt))
     (cond (y && false) (body_fault NameUnknown)
     (cond (y && false) (body_fault ClassWrong)
     (cond (y && false) (body_fault NotServed)
@@ -245,7 +244,7 @@ bit_road : (n : ℕ) (t : Transfer) (y : Bool)
     (cond (y && false) (body_fault AnswerTooLong)
     (cond (y && is_ended t) (body_fault TransferEnded)
     (cond (y && is_idle t) (body_fault NoTransfer)
-    (cond (y && on_running t (λ k. not (eqb n k))) (body_fault BlockNumber) Passes))))))))))
+    (cond (y && on_running t (λ k. not (eqb n k))) (body_fault BlockNumber) (Ok tt)))))))))))
     ≡ cond y (number_finds n t) (fault MalformedApdu)
 bit_road n t true = number_road n t
 bit_road n t false = refl
@@ -280,16 +279,16 @@ module _ (l : Line) (b : Body) (a : Secrets) where
       title : List ℕ
       title = (ciphering c l).peer.title
 
-      go : (x : Shape)
+      go : (x : Option Shape)
           → cond (is_misshapen x) (fault EnvelopeShape)
           (cond (on_shaped x (forged k title s)) (fault EnvelopeTag)
           (cond (on_shaped x (λ counter from to. not (in_window (counters c l).accepted counter))) (fault CounterWindow)
           (rest (opened_by k title tag s x))))
           ≡ shape_finds x (opened_finds (counters c l).accepted (opened_by k title tag s x) inside)
-      go Misshapen = refl
-      go (Shaped n i j) =
-          opened_road (counters c l).accepted rest inside same (authentic k.key (nonce title n) (associated_data k) (part i j s) (drop j s)) n
-          (ciphered k.key (nonce title n) (part i j s))
+      go None = refl
+      go (Some x) =
+          opened_road (counters c l).accepted rest inside same (authentic k.key (nonce title x.counter) (associated_data k) (part x.text x.tag s) (drop x.tag s)) x.counter
+          (ciphered k.key (nonce title x.counter) (part x.text x.tag s))
 
   -- By the tag: what the rest of the line's tests and those of the body come to.
 
@@ -302,7 +301,7 @@ module _ (l : Line) (b : Body) (a : Secrets) where
       (cond (on_envelope l a c t (λ d k tag. on_shaped (shape_of tag s) (λ counter from to. not (in_window (counters d l).accepted counter)))) (fault CounterWindow)
       (cond (malformed_in l a c s t) (fault MalformedApdu)
       (cond (on_answer l a c s t (λ d counter text q. not (is_challenge d text q))) (fault NotTheChallenge)
-      (cond (on_answer l a c s t (λ d counter text q. not (proves_itself l a d counter text q))) (fault WrongProof) Passes))))))
+      (cond (on_answer l a c s t (λ d counter text q. not (proves_itself l a d counter text q))) (fault WrongProof) (Ok tt)))))))
 
   -- the tests of the body, where the call is about a request
   abbrev request_stretch : ((Inquiry → Bool) → Bool) → Finding
@@ -316,44 +315,44 @@ module _ (l : Line) (b : Body) (a : Secrets) where
       (cond (on (λ q. inquiry_fails q b AnswerTooLong)) (body_fault AnswerTooLong)
       (cond (on (λ q. inquiry_fails q b TransferEnded)) (body_fault TransferEnded)
       (cond (on (λ q. inquiry_fails q b NoTransfer)) (body_fault NoTransfer)
-      (cond (on (λ q. inquiry_fails q b BlockNumber)) (body_fault BlockNumber) Passes)))))))))
+      (cond (on (λ q. inquiry_fails q b BlockNumber)) (body_fault BlockNumber) (Ok tt))))))))))
 
-  aarq_road : (c : Client) (s : List ℕ) → cond (not (aarq_accepted l a c s (read_aarq s c (peer c l).title))) (fault AarqNotAccepted) Passes ≡ aarq_finds l a c s
+  aarq_road : (c : Client) (s : List ℕ) → cond (not (aarq_accepted l a c s (read_aarq s c (peer c l).title))) (fault AarqNotAccepted) (Ok tt) ≡ aarq_finds l a c s
   unfolding aarq_finds
   aarq_road c s = go (aarq_accepted l a c s (read_aarq s c (peer c l).title))
     where
-      go : (x : Bool) → cond (not x) (fault AarqNotAccepted) Passes ≡ cond x Passes (fault AarqNotAccepted)
+      go : (x : Bool) → cond (not x) (fault AarqNotAccepted) (Ok tt) ≡ cond x (Ok tt) (fault AarqNotAccepted)
       go true = refl
       go false = refl
 
-  release_road : (s : List ℕ) → cond (not (is_release s)) (fault MalformedApdu) Passes ≡ release_finds s
+  release_road : (s : List ℕ) → cond (not (is_release s)) (fault MalformedApdu) (Ok tt) ≡ release_finds s
   unfolding release_finds
   release_road s = go (is_release s)
     where
-      go : (x : Bool) → cond (not x) (fault MalformedApdu) Passes ≡ cond x Passes (fault MalformedApdu)
+      go : (x : Bool) → cond (not x) (fault MalformedApdu) (Ok tt) ≡ cond x (Ok tt) (fault MalformedApdu)
       go true = refl
       go false = refl
 
-  asked_road : (c : Client) (text : List ℕ) (r : Reading)
-      → or_else (cond (is_malformed (blocks_in c l) r) (fault MalformedApdu) Passes) (request_stretch (on_inquiry l c text r)) ≡ asked_finds l b c text r
-  asked_road c text Malformed = refl
-  asked_road c text (Asks q) = body_road (requested c (selective_in c l) (blocks_in c l) text q) b
-  asked_road c text (GoesOn i n) = bit_road n b.transfer (blocks_in c l)
+  asked_road : (c : Client) (text : List ℕ) (r : Option Reading)
+      → or_else (cond (is_malformed (blocks_in c l) r) (fault MalformedApdu) (Ok tt)) (request_stretch (on_inquiry l c text r)) ≡ asked_finds l b c text r
+  asked_road c text None = refl
+  asked_road c text (Some (Asks q)) = body_road (requested c (selective_in c l) (blocks_in c l) text q) b
+  asked_road c text (Some (GoesOn i n)) = bit_road n b.transfer (blocks_in c l)
 
-  answer_road : (c : CipherClient) (counter : ℕ) (text : List ℕ) (r : Reading)
+  answer_road : (c : CipherClient) (counter : ℕ) (text : List ℕ) (r : Option Reading)
       → cond (is_malformed false r) (fault MalformedApdu)
-      (cond (on_asks r (λ q. not (is_challenge c text q))) (fault NotTheChallenge) (cond (on_asks r (λ q. not (proves_itself l a c counter text q))) (fault WrongProof) Passes))
+      (cond (on_asks r (λ q. not (is_challenge c text q))) (fault NotTheChallenge) (cond (on_asks r (λ q. not (proves_itself l a c counter text q))) (fault WrongProof) (Ok tt)))
       ≡ answer_finds l a c counter text r
-  answer_road c counter text Malformed = refl
-  answer_road c counter text (GoesOn i n) = refl
-  answer_road c counter text (Asks q) = go (is_challenge c text q) (proves_itself l a c counter text q)
+  answer_road c counter text None = refl
+  answer_road c counter text (Some (GoesOn i n)) = refl
+  answer_road c counter text (Some (Asks q)) = go (is_challenge c text q) (proves_itself l a c counter text q)
     where
-      go : (x y : Bool) → cond (not x) (fault NotTheChallenge) (cond (not y) (fault WrongProof) Passes) ≡ cond x (cond y Passes (fault WrongProof)) (fault NotTheChallenge)
+      go : (x y : Bool) → cond (not x) (fault NotTheChallenge) (cond (not y) (fault WrongProof) (Ok tt)) ≡ cond x (cond y (Ok tt) (fault WrongProof)) (fault NotTheChallenge)
       go true true = refl
       go true false = refl
       go false y = refl
 
-  challenge_road : (c : CipherClient) (s : List ℕ) → or_else (tag_stretch (Ciphering c) s GlobalAction) Passes ≡ challenge_finds l a s c
+  challenge_road : (c : CipherClient) (s : List ℕ) → or_else (tag_stretch (Ciphering c) s GlobalAction) (Ok tt) ≡ challenge_finds l a s c
   unfolding challenge_finds
   challenge_road c s =
       else_none (tag_stretch (Ciphering c) s GlobalAction)
@@ -361,7 +360,7 @@ module _ (l : Line) (b : Body) (a : Secrets) where
       (λ o.
       cond (on_opened o (λ counter text. is_malformed false (read_action text))) (fault MalformedApdu)
       (cond (on_opened o (λ counter text. on_asks (read_action text) (λ q. not (is_challenge c text q)))) (fault NotTheChallenge)
-      (cond (on_opened o (λ counter text. on_asks (read_action text) (λ q. not (proves_itself l a c counter text q)))) (fault WrongProof) Passes)))
+      (cond (on_opened o (λ counter text. on_asks (read_action text) (λ q. not (proves_itself l a c counter text q)))) (fault WrongProof) (Ok tt))))
       (λ counter text. answer_finds l a c counter text (read_action text))
       (λ counter text. answer_road c counter text (read_action text))
 
@@ -374,10 +373,10 @@ module _ (l : Line) (b : Body) (a : Secrets) where
       let text : Opened = opened keys (ciphering c l).peer.title (dedicated_tag k) s in
       else_three (is_misshapen shape) (on_shaped shape (forged keys (ciphering c l).peer.title s)) (on_shaped shape (λ n i j. not (in_window (counters c l).accepted n)))
       (OfLine EnvelopeShape) (OfLine EnvelopeTag) (OfLine CounterWindow)
-      (cond (on_opened text (λ n x. is_malformed (blocks_in (Ciphering c) l) (read_service k x))) (fault MalformedApdu) Passes) (request_stretch (on_request l a (Ciphering c) s (DedicatedRequest k)))
+      (cond (on_opened text (λ n x. is_malformed (blocks_in (Ciphering c) l) (read_service k x))) (fault MalformedApdu) (Ok tt)) (request_stretch (on_request l a (Ciphering c) s (DedicatedRequest k)))
       ∙ envelope_road c keys (dedicated_tag k) s
       (λ o.
-      or_else (cond (on_opened o (λ n x. is_malformed (blocks_in (Ciphering c) l) (read_service k x))) (fault MalformedApdu) Passes)
+      or_else (cond (on_opened o (λ n x. is_malformed (blocks_in (Ciphering c) l) (read_service k x))) (fault MalformedApdu) (Ok tt))
       (request_stretch (λ g. on_opened o (λ n x. on_inquiry l (Ciphering c) x (read_service k x) g))))
       (λ n x. asked_finds l b (Ciphering c) x (read_service k x))
       (λ n x. asked_road (Ciphering c) x (read_service k x))
@@ -425,7 +424,7 @@ module _ (l : Line) (b : Body) (a : Secrets) where
       (cond (line_fails l a f x CounterWindow) (fault CounterWindow)
       (cond (line_fails l a f x MalformedApdu) (fault MalformedApdu)
       (cond (line_fails l a f x NotTheChallenge) (fault NotTheChallenge)
-      (cond (line_fails l a f x WrongProof) (fault WrongProof) Passes))))))))))))))
+      (cond (line_fails l a f x WrongProof) (fault WrongProof) (Ok tt)))))))))))))))
       (request_stretch (λ g. on_apdu f x (λ c s. on_request l a c s (tag_in s) g)))
 
   up_road : (f : List ℕ) (c : Client) (h : Head) (information : Bool) → rest_of f (LinkUp c h information) ≡ link_up_finds l c information
@@ -437,7 +436,7 @@ module _ (l : Line) (b : Body) (a : Secrets) where
   unfolding link_down_finds
   down_road f c h = go (peer c l).up
     where
-      go : (x : Bool) → or_else (cond (not x) (fault LinkDownWhileDown) Passes) Passes ≡ cond x Passes (fault LinkDownWhileDown)
+      go : (x : Bool) → or_else (cond (not x) (fault LinkDownWhileDown) (Ok tt)) (Ok tt) ≡ cond x (Ok tt) (fault LinkDownWhileDown)
       go true = refl
       go false = refl
 
@@ -484,9 +483,9 @@ module _ (l : Line) (b : Body) (a : Secrets) where
 -- Calls.
 
 -- a finding of the frame's own tests
-abbrev of_frame : Verdict → Finding
-of_frame (Failed t) = Fails (OfFrame t)
-of_frame Passed = Passes
+abbrev of_frame : Outcome (Unit {0}) FrameTest → Finding
+of_frame (Err t) = Err (OfFrame t)
+of_frame (Ok done) = Ok tt
 
 module _ (m : Model) (a : Lent) where
   frame_stretch : (ts : List FrameTest) → first_failing (call_fails m a) (map OfFrame ts) ≡ of_frame (frame_failing meter_side ts a.received)
@@ -495,11 +494,11 @@ module _ (m : Model) (a : Lent) where
   frame_stretch (t ∷ ts) = by_cond (fails_frame meter_side t a.received) (frame_stretch ts)
     where
       by_cond : (x : Bool) → first_failing (call_fails m a) (map OfFrame ts) ≡ of_frame (frame_failing meter_side ts a.received)
-          → cond x (Fails (OfFrame t)) (first_failing (call_fails m a) (map OfFrame ts)) ≡ of_frame (cond x (Failed t) (frame_failing meter_side ts a.received))
+          → cond x (Err (OfFrame t)) (first_failing (call_fails m a) (map OfFrame ts)) ≡ of_frame (cond x (Err t) (frame_failing meter_side ts a.received))
       by_cond true e = refl
       by_cond false e = e
 
-  frame_fails : (t : FrameTest) → FirstOfFrame meter_side frame_tests a.received t → frame_failing meter_side frame_tests a.received ≡ Failed t
+  frame_fails : (t : FrameTest) → FirstOfFrame meter_side frame_tests a.received t → frame_failing meter_side frame_tests a.received ≡ Err t
   frame_fails t n =
       ap (λ ts. frame_failing meter_side ts a.received) n.order
       ∙ passes_here meter_side a.received n.before (t ∷ n.after) (none_fails meter_side a.received n.passed)
@@ -535,11 +534,11 @@ module _ (m : Model) (a : Lent) where
       (every (λ i r. valid_clock r.clock) 0 m.body.store.rows) (leb (length m.body.store.rows) max_rows) (every (λ i r. eqb (length r.cells) (length m.body.store.columns)) 0 m.body.store.rows)
       (cond (not (kinds_known m.line)) (unsound AssociationKind) (cond (not (links_stand m.line)) (unsound AssociationOnLink) (cond (not (services_offered m.line)) (unsound AgreedServices) (transfer_finds m.line m.body))))
       ∙ ap (or_else (body_state_finds m.body))
-      (sym (else_three (not (kinds_known m.line)) (not (links_stand m.line)) (not (services_offered m.line)) (OfState AssociationKind) (OfState AssociationOnLink) (OfState AgreedServices) Passes (transfer_finds m.line m.body)))
+      (sym (else_three (not (kinds_known m.line)) (not (links_stand m.line)) (not (services_offered m.line)) (OfState AssociationKind) (OfState AssociationOnLink) (OfState AgreedServices) (Ok tt) (transfer_finds m.line m.body)))
     where
       go : (x1 x2 x3 x4 x5 x6 x7 : Bool) (rest : Finding)
           → cond (not x1) (unsound RegisterList) (cond (not x2) (unsound ColumnList) (cond (not x3) (unsound PeriodPermitted) (cond (not x4) (unsound ClockValid) (cond (not x5) (unsound RowClocksValid) (cond (not x6) (unsound RowCount) (cond (not x7) (unsound RowCells) rest))))))
-          ≡ or_else (cond (not x1) (unsound RegisterList) (cond (not x2) (unsound ColumnList) (cond (not x3) (unsound PeriodPermitted) (cond (not x4) (unsound ClockValid) (cond (not x5) (unsound RowClocksValid) (cond (not x6) (unsound RowCount) (cond (not x7) (unsound RowCells) Passes))))))) rest
+          ≡ or_else (cond (not x1) (unsound RegisterList) (cond (not x2) (unsound ColumnList) (cond (not x3) (unsound PeriodPermitted) (cond (not x4) (unsound ClockValid) (cond (not x5) (unsound RowClocksValid) (cond (not x6) (unsound RowCount) (cond (not x7) (unsound RowCells) (Ok tt)))))))) rest
       go false x2 x3 x4 x5 x6 x7 rest = refl
       go true false x3 x4 x5 x6 x7 rest = refl
       go true true false x4 x5 x6 x7 rest = refl

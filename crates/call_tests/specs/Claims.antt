@@ -1,9 +1,7 @@
 -- What is claimed of the test that is named (document 02, Q-2): "that the test named fails, that all before it in 01's order pass, and
 -- that the real call gives this number", for every meter, sound or not, and all that is lent. No test's definition names a number or
 -- the call, so none of this holds by definition. Proved in proofs/.
-use Rattle.std.specs.Prelude.{◌≡◌, Bool, true, false, not, ◌&&◌, List, [], ◌∷◌, ◌++◌, map, ℕ, ◌≤◌, length}
-use Prim.Native.String.{String}
-use lib.Text.{eqt}
+use Rattle.std.specs.Prelude.{◌≡◌, Bool, true, false, not, ◌&&◌, List, [], ◌∷◌, ◌++◌, map, ℕ, ◌≤◌, length, Ok, Err, codes, bytes_eq}
 use Rattle.model.specs.Limits.{longest_sent, reply_room}
 use Rattle.model.specs.State.{Body, Model}
 use Rattle.model.specs.Soundness.{sound}
@@ -14,9 +12,8 @@ use Rattle.protocol.specs.Decide.{p2}
 use Rattle.call_tests.specs.declared.BodyTest.{BodyTest}
 use Rattle.call_tests.specs.declared.CallTest.{CallTest}
 use Rattle.call_tests.specs.declared.CallTest.TheVariants.{Lent as OfLent, Sound as OfState, Frame as OfFrame, Line as OfLine, Body as OfBody}
-use Rattle.call_tests.specs.declared.Finding.TheVariants.{Fails, Passes}
 use Rattle.call_tests.specs.Tests.{inquiry_fails, body_tests, call_fails, call_tests, first_failing, found}
-use Rattle.call_tests.specs.Lines.{number_of, code_of, number_found, name_of, name_found, letters, line_found}
+use Rattle.call_tests.specs.Lines.{number_of, code_of, number_found, name_of, name_found, line_found}
 
 -- The order.
 
@@ -35,9 +32,9 @@ pub record FirstOf (m : Model) (a : Lent) (ts : List CallTest) (t : CallTest) : 
 
 -- "the test named fails .. all before it in 01's order pass"; and no other is named
 pub record Named : Type 0 where
-  pub first : (m : Model) (a : Lent) (t : CallTest) → found m a ≡ Fails t → FirstOf m a call_tests t
-  pub only : (m : Model) (a : Lent) (t : CallTest) → FirstOf m a call_tests t → found m a ≡ Fails t
-  pub none : (m : Model) (a : Lent) → found m a ≡ Passes → AllPass m a call_tests
+  pub first : (m : Model) (a : Lent) (t : CallTest) → found m a ≡ Err t → FirstOf m a call_tests t
+  pub only : (m : Model) (a : Lent) (t : CallTest) → FirstOf m a call_tests t → found m a ≡ Err t
+  pub none : (m : Model) (a : Lent) → found m a ≡ Ok tt → AllPass m a call_tests
 
 -- where a test stands in the list
 pub record Stands (t : CallTest) : Type 0 where
@@ -51,16 +48,16 @@ AllStand = (t : CallTest) → Stands t
 
 -- "names .., one for each test": no two of a list are the same text
 
-abbrev pub none_same : String → List String → Bool
+abbrev pub none_same : List ℕ → List (List ℕ) → Bool
 none_same x [] = true
-none_same x (y ∷ ys) = not (eqt x y) && none_same x ys
+none_same x (y ∷ ys) = not (bytes_eq x y) && none_same x ys
 
-abbrev pub all_apart : List String → Bool
+abbrev pub all_apart : List (List ℕ) → Bool
 all_apart [] = true
 all_apart (x ∷ xs) = none_same x xs && all_apart xs
 
 abbrev pub NamesApart : Type 0
-NamesApart = all_apart (name_found Passes ∷ map name_of call_tests) ≡ true
+NamesApart = all_apart (name_found (Ok tt) ∷ map name_of call_tests) ≡ true
 
 -- The number.
 
@@ -74,8 +71,8 @@ RightNumber = (m : Model) (a : Lent) → refusal_in m a ≡ number_found (found 
 
 -- "0 none - if accepted": none is named exactly where the call is accepted
 pub record NoneWhenAccepted : Type 0 where
-  pub none : (m : Model) (a : Lent) → found m a ≡ Passes → refusal_in m a ≡ 0
-  pub accepted : (m : Model) (a : Lent) → refusal_in m a ≡ 0 → found m a ≡ Passes
+  pub none : (m : Model) (a : Lent) → found m a ≡ Ok tt → refusal_in m a ≡ 0
+  pub accepted : (m : Model) (a : Lent) → refusal_in m a ≡ 0 → found m a ≡ Ok tt
 
 -- a row of document 01's table is "met when" the call fails one of its tests and passes all before this one
 pub record Met (m : Model) (a : Lent) (n : ℕ) : Type 0 where
@@ -106,11 +103,11 @@ request_fails q b (OfBody t) = inquiry_fails q b t
 pub record CodesRight : Type 0 where
   pub request :
       (q : Request) (b : Body) (t : BodyTest)
-      → first_failing (request_fails (ask q) b) (map OfBody body_tests) ≡ Fails (OfBody t)
+      → first_failing (request_fails (ask q) b) (map OfBody body_tests) ≡ Err (OfBody t)
       → result_of q b (meaning q.client q.name b.store.registers) q.service ≡ denied (code_of t)
   pub numbered :
       (i n : ℕ) (b : Body) (t : BodyTest)
-      → first_failing (request_fails (go_on i n) b) (map OfBody body_tests) ≡ Fails (OfBody t)
+      → first_failing (request_fails (go_on i n) b) (map OfBody body_tests) ≡ Err (OfBody t)
       → turned (go_on i n) b ≡ refused_by (code_of t) i n b
 
 -- The example.
@@ -132,4 +129,4 @@ ExampleTold =
     → sound m ≡ true
     → WellLent a
     → a.received ≡ wrong_check
-    → line_found (found m a) a.received ≡ letters "4 wrong-FCS 6"
+    → line_found (found m a) a.received ≡ codes "4 wrong-FCS 6"

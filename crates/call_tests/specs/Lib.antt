@@ -1,3 +1,4 @@
+pub mod Finding
 pub mod Tests
 pub mod Lines
 pub mod Places

@@ -1,15 +1,11 @@
 -- What is told of a call (document 02, Q-2): "one line, single spaces between: the refusal number, the test that failed .., and for
 -- refusal 4 or 9 the failing field's first byte counted from 0 .., else -"; "0 none - if accepted".
-use Rattle.std.specs.Prelude.{cond, List, [], ◌∷◌, ◌++◌, ℕ, zero, suc, ◌/◌, ltb}
-use Prim.Native.String.{String, len, char_at}
-use Prim.Native.Char.{code}
+use Rattle.std.specs.Prelude.{cond, List, ◌++◌, ℕ, zero, suc, ◌/◌, ltb, Option, Some, None, codes, Ok, Err}
 use Rattle.io.specs.Digits.{last_digits}
 use Rattle.model.specs.declared.SoundnessTest.{SoundnessTest}
 use Rattle.model.specs.declared.SoundnessTest.TheVariants.{RegisterList, ColumnList, PeriodPermitted, ClockValid, RowClocksValid, RowCount, RowCells, AssociationKind, AssociationOnLink, AgreedServices, TransferPossible}
 use Rattle.hdlc.specs.declared.FrameTest.{FrameTest}
 use Rattle.hdlc.specs.declared.FrameTest.TheVariants.{ShortFrame, FlagMissing, FrameType, LengthMismatch, LengthEightOrNine, WrongFcs, WrongHcs, EvenAddress, FrmrReceived, OverLength, SegmentBit, PfClear, WrongDestination, WrongSource, UnknownControl, LinkDownWithInformation, ShortInformation, WrongLlc}
-use Rattle.hdlc.specs.declared.Place.{Place}
-use Rattle.hdlc.specs.declared.Place.TheVariants.{Byte, Nowhere}
 use Rattle.hdlc.specs.Tests.{number_of as frame_number, place_of as frame_place}
 use Rattle.call_tests.specs.declared.LentTest.{LentTest}
 use Rattle.call_tests.specs.declared.LentTest.TheVariants.{ReplyRoom, GukLength, AkLength, ChallengeLength}
@@ -19,8 +15,7 @@ use Rattle.call_tests.specs.declared.BodyTest.{BodyTest}
 use Rattle.call_tests.specs.declared.BodyTest.TheVariants.{NameUnknown, ClassWrong, NotServed, ParameterShape, EntriesWrong, RangeWrong, AnswerTooLong, TransferEnded, NoTransfer, BlockNumber}
 use Rattle.call_tests.specs.declared.CallTest.{CallTest}
 use Rattle.call_tests.specs.declared.CallTest.TheVariants.{Lent as OfLent, Sound as OfState, Frame as OfFrame, Line as OfLine, Body as OfBody}
-use Rattle.call_tests.specs.declared.Finding.{Finding}
-use Rattle.call_tests.specs.declared.Finding.TheVariants.{Fails, Passes}
+use Rattle.call_tests.specs.Finding.{Finding}
 
 -- The refusal number: that of the row of document 01's table which the test is part of.
 
@@ -67,112 +62,103 @@ code_of NoTransfer = 16
 code_of BlockNumber = 19
 
 abbrev pub number_found : Finding → ℕ
-number_found (Fails t) = number_of t
-number_found Passes = 0
+number_found (Err t) = number_of t
+number_found (Ok _) = 0
 
--- The name.
+-- The name, as its letters, which are all ASCII.
 
-abbrev pub lent_name : LentTest → String
-lent_name ReplyRoom = "reply-room"
-lent_name GukLength = "GUK-length"
-lent_name AkLength = "AK-length"
-lent_name ChallengeLength = "challenge-length"
+abbrev pub lent_name : LentTest → List ℕ
+lent_name ReplyRoom = codes "reply-room"
+lent_name GukLength = codes "GUK-length"
+lent_name AkLength = codes "AK-length"
+lent_name ChallengeLength = codes "challenge-length"
 
-abbrev pub state_name : SoundnessTest → String
-state_name RegisterList = "register-list"
-state_name ColumnList = "column-list"
-state_name PeriodPermitted = "period"
-state_name ClockValid = "clock"
-state_name RowClocksValid = "row-clock"
-state_name RowCount = "row-count"
-state_name RowCells = "row-cells"
-state_name AssociationKind = "association-kind"
-state_name AssociationOnLink = "association-without-link"
-state_name AgreedServices = "agreed-services"
-state_name TransferPossible = "transfer"
+abbrev pub state_name : SoundnessTest → List ℕ
+state_name RegisterList = codes "register-list"
+state_name ColumnList = codes "column-list"
+state_name PeriodPermitted = codes "period"
+state_name ClockValid = codes "clock"
+state_name RowClocksValid = codes "row-clock"
+state_name RowCount = codes "row-count"
+state_name RowCells = codes "row-cells"
+state_name AssociationKind = codes "association-kind"
+state_name AssociationOnLink = codes "association-without-link"
+state_name AgreedServices = codes "agreed-services"
+state_name TransferPossible = codes "transfer"
 
-abbrev pub frame_name : FrameTest → String
-frame_name ShortFrame = "short-frame"
-frame_name FlagMissing = "flag-missing"
-frame_name FrameType = "frame-type"
-frame_name LengthMismatch = "length-mismatch"
-frame_name LengthEightOrNine = "length-8-or-9"
-frame_name WrongFcs = "wrong-FCS"
-frame_name WrongHcs = "wrong-HCS"
-frame_name EvenAddress = "even-address"
-frame_name FrmrReceived = "FRMR-received"
-frame_name OverLength = "over-length"
-frame_name SegmentBit = "segment-bit"
-frame_name PfClear = "PF-clear"
-frame_name WrongDestination = "wrong-destination"
-frame_name WrongSource = "wrong-source"
-frame_name UnknownControl = "unknown-control"
-frame_name LinkDownWithInformation = "link-down-with-information"
-frame_name ShortInformation = "short-information"
-frame_name WrongLlc = "wrong-LLC"
+abbrev pub frame_name : FrameTest → List ℕ
+frame_name ShortFrame = codes "short-frame"
+frame_name FlagMissing = codes "flag-missing"
+frame_name FrameType = codes "frame-type"
+frame_name LengthMismatch = codes "length-mismatch"
+frame_name LengthEightOrNine = codes "length-8-or-9"
+frame_name WrongFcs = codes "wrong-FCS"
+frame_name WrongHcs = codes "wrong-HCS"
+frame_name EvenAddress = codes "even-address"
+frame_name FrmrReceived = codes "FRMR-received"
+frame_name OverLength = codes "over-length"
+frame_name SegmentBit = codes "segment-bit"
+frame_name PfClear = codes "PF-clear"
+frame_name WrongDestination = codes "wrong-destination"
+frame_name WrongSource = codes "wrong-source"
+frame_name UnknownControl = codes "unknown-control"
+frame_name LinkDownWithInformation = codes "link-down-with-information"
+frame_name ShortInformation = codes "short-information"
+frame_name WrongLlc = codes "wrong-LLC"
 
-abbrev pub line_name : LineTest → String
-line_name LinkUpWithInformation = "link-up-with-information"
-line_name P5HoldsV = "P5-holds-V"
-line_name LinkDownWhileDown = "link-down-while-down"
-line_name DataWhileDown = "data-while-down"
-line_name UnknownTag = "unknown-tag"
-line_name TagNotPermitted = "tag-not-permitted"
-line_name BitNotAgreed = "bit-not-agreed"
-line_name AarqNotAccepted = "AARQ-not-accepted"
-line_name EnvelopeShape = "envelope-shape"
-line_name EnvelopeTag = "envelope-tag"
-line_name CounterWindow = "counter-window"
-line_name MalformedApdu = "malformed-APDU"
-line_name NotTheChallenge = "not-the-challenge"
-line_name WrongProof = "wrong-proof"
+abbrev pub line_name : LineTest → List ℕ
+line_name LinkUpWithInformation = codes "link-up-with-information"
+line_name P5HoldsV = codes "P5-holds-V"
+line_name LinkDownWhileDown = codes "link-down-while-down"
+line_name DataWhileDown = codes "data-while-down"
+line_name UnknownTag = codes "unknown-tag"
+line_name TagNotPermitted = codes "tag-not-permitted"
+line_name BitNotAgreed = codes "bit-not-agreed"
+line_name AarqNotAccepted = codes "AARQ-not-accepted"
+line_name EnvelopeShape = codes "envelope-shape"
+line_name EnvelopeTag = codes "envelope-tag"
+line_name CounterWindow = codes "counter-window"
+line_name MalformedApdu = codes "malformed-APDU"
+line_name NotTheChallenge = codes "not-the-challenge"
+line_name WrongProof = codes "wrong-proof"
 
-abbrev pub body_name : BodyTest → String
-body_name NameUnknown = "name-unknown"
-body_name ClassWrong = "class-wrong"
-body_name NotServed = "not-served"
-body_name ParameterShape = "parameter-shape"
-body_name EntriesWrong = "entries-wrong"
-body_name RangeWrong = "range-wrong"
-body_name AnswerTooLong = "answer-too-long"
-body_name TransferEnded = "transfer-ended"
-body_name NoTransfer = "no-transfer"
-body_name BlockNumber = "block-number"
+abbrev pub body_name : BodyTest → List ℕ
+body_name NameUnknown = codes "name-unknown"
+body_name ClassWrong = codes "class-wrong"
+body_name NotServed = codes "not-served"
+body_name ParameterShape = codes "parameter-shape"
+body_name EntriesWrong = codes "entries-wrong"
+body_name RangeWrong = codes "range-wrong"
+body_name AnswerTooLong = codes "answer-too-long"
+body_name TransferEnded = codes "transfer-ended"
+body_name NoTransfer = codes "no-transfer"
+body_name BlockNumber = codes "block-number"
 
-abbrev pub name_of : CallTest → String
+abbrev pub name_of : CallTest → List ℕ
 name_of (OfLent t) = lent_name t
 name_of (OfState t) = state_name t
 name_of (OfFrame t) = frame_name t
 name_of (OfLine t) = line_name t
 name_of (OfBody t) = body_name t
 
-abbrev pub name_found : Finding → String
-name_found (Fails t) = name_of t
-name_found Passes = "none"
+abbrev pub name_found : Finding → List ℕ
+name_found (Err t) = name_of t
+name_found (Ok _) = codes "none"
 
 -- The place, of a frame's own tests: "for refusal 4 or 9". specs/Places says that it is the failing field's first byte.
 
-abbrev pub place_of : CallTest → (received : List ℕ) → Place
-place_of (OfLent t) f = Nowhere
-place_of (OfState t) f = Nowhere
+abbrev pub place_of : CallTest → (received : List ℕ) → Option ℕ
+place_of (OfLent t) f = None
+place_of (OfState t) f = None
 place_of (OfFrame t) f = frame_place t f
-place_of (OfLine t) f = Nowhere
-place_of (OfBody t) f = Nowhere
+place_of (OfLine t) f = None
+place_of (OfBody t) f = None
 
-abbrev pub place_found : Finding → (received : List ℕ) → Place
-place_found (Fails t) f = place_of t f
-place_found Passes f = Nowhere
+abbrev pub place_found : Finding → (received : List ℕ) → Option ℕ
+place_found (Err t) f = place_of t f
+place_found (Ok _) f = None
 
 -- The line.
-
--- the characters of a text from a place on, so many
-abbrev pub letters_from : (count at : ℕ) → String → List ℕ
-letters_from zero at s = []
-letters_from (suc n) at s = code (char_at s at) ∷ letters_from n (suc at) s
-
--- the characters of a text, none of which is outside ASCII
-abbrev pub letters : String → List ℕ
-letters s = letters_from (len s) 0 s
 
 -- how many decimal digits a number has, of at most so many and one
 abbrev pub digits_within : ℕ → ℕ → ℕ
@@ -183,13 +169,13 @@ digits_within (suc k) n = cond (ltb n 10) 1 (suc (digits_within k (n / 10)))
 abbrev pub decimal : ℕ → List ℕ
 decimal n = last_digits 10 (digits_within 19 n) n
 
-abbrev pub place_text : Place → List ℕ
-place_text (Byte at) = decimal at
-place_text Nowhere = letters "-"
+abbrev pub place_text : Option ℕ → List ℕ
+place_text (Some at) = decimal at
+place_text None = codes "-"
 
-unfoldable pub spelled : (number : ℕ) → (name : List ℕ) → Place → List ℕ
-spelled number name place = decimal number ++ (letters " " ++ (name ++ (letters " " ++ place_text place)))
+unfoldable pub spelled : (number : ℕ) → (name : List ℕ) → Option ℕ → List ℕ
+spelled number name place = decimal number ++ (codes " " ++ (name ++ (codes " " ++ place_text place)))
 
 -- of what was found of a call with this frame
 unfoldable pub line_found : Finding → (received : List ℕ) → List ℕ
-line_found x f = spelled (number_found x) (letters (name_found x)) (place_found x f)
+line_found x f = spelled (number_found x) (name_found x) (place_found x f)

@@ -1,6 +1,6 @@
 -- "The failing field's first byte counted from 0 (of two the first; a short frame: 0; information absent, short or unwanted: 8)"
 -- (document 02, Q-2): the fields of a frame, where each begins, and of each test the fields that it is about, with what makes them fail it.
-use Rattle.std.specs.Prelude.{◌≡◌, Bool, true, false, not, cond, ◌||◌, List, [], ◌∷◌, ℕ, ◌-◌, ◌%◌, eqb, length, take, drop}
+use Rattle.std.specs.Prelude.{◌≡◌, Bool, not, cond, ◌||◌, List, [], ◌∷◌, ℕ, ◌-◌, ◌%◌, eqb, length, take, drop, Option, Some, None, is_some, Err}
 use Rattle.wire.specs.Numbers.{number_low, number_high}
 use Rattle.wire.specs.Reading.{part}
 use Rattle.model.specs.State.{Model}
@@ -9,9 +9,6 @@ use Rattle.hdlc.specs.Layout.{flag, byte, format_of, head_of, hcs_of, informatio
 use Rattle.hdlc.specs.Tests.{fails, meter_side}
 use Rattle.hdlc.specs.declared.FrameTest.{FrameTest}
 use Rattle.hdlc.specs.declared.FrameTest.TheVariants.{ShortFrame, FlagMissing, FrameType, LengthMismatch, LengthEightOrNine, WrongFcs, WrongHcs, EvenAddress, FrmrReceived, OverLength, SegmentBit, PfClear, WrongDestination, WrongSource, UnknownControl, LinkDownWithInformation, ShortInformation, WrongLlc}
-use Rattle.hdlc.specs.declared.Place.{Place}
-use Rattle.hdlc.specs.declared.Place.TheVariants.{Byte, Nowhere}
-use Rattle.call_tests.specs.declared.Finding.TheVariants.{Fails}
 use Rattle.call_tests.specs.declared.CallTest.TheVariants.{Frame as OfFrame}
 use Rattle.call_tests.specs.Tests.{found}
 use Rattle.call_tests.specs.Lines.{number_found, place_found}
@@ -79,9 +76,9 @@ aspects_of ShortInformation f = alone information ShortInformation f
 aspects_of WrongLlc f = alone information WrongLlc f
 
 -- where the first wrong field begins
-abbrev pub first_wrong : List Aspect → List ℕ → Place
-first_wrong [] f = Nowhere
-first_wrong (x ∷ xs) f = cond x.wrong (Byte (start_of x.field f)) (first_wrong xs f)
+abbrev pub first_wrong : List Aspect → List ℕ → Option ℕ
+first_wrong [] f = None
+first_wrong (x ∷ xs) f = cond x.wrong (Some (start_of x.field f)) (first_wrong xs f)
 
 -- What is claimed, for every call. Proved in proofs/Places.
 
@@ -89,18 +86,14 @@ first_wrong (x ∷ xs) f = cond x.wrong (Byte (start_of x.field f)) (first_wrong
 abbrev pub PlacesRight : Type 0
 PlacesRight =
     (m : Model) (a : Lent) (t : FrameTest)
-    → found m a ≡ Fails (OfFrame t)
+    → found m a ≡ Err (OfFrame t)
     → place_found (found m a) a.received ≡ first_wrong (aspects_of t a.received) a.received
-
-abbrev pub is_byte : Place → Bool
-is_byte (Byte at) = true
-is_byte Nowhere = false
 
 -- and there is one exactly for refusals 4 and 9
 abbrev pub PlacesOnly : Type 0
 PlacesOnly =
     (m : Model) (a : Lent)
-    → is_byte (place_found (found m a) a.received) ≡ (eqb (number_found (found m a)) 4 || eqb (number_found (found m a)) 9)
+    → is_some (place_found (found m a) a.received) ≡ (eqb (number_found (found m a)) 4 || eqb (number_found (found m a)) 9)
 
 abbrev pub FieldsRight : Type 0
 FieldsRight = (f : List ℕ) → FieldsStand f

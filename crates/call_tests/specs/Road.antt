@@ -1,7 +1,7 @@
 -- The tests on the road that the code goes: what a frame comes to, step by step, in the order of crate protocol's rulings. The functions
 -- of the crate diagnosis promise each other these; that they come to the first failing test of the list is proved in proofs/Road, and no
 -- claim rests on the reader's belief in them.
-use Rattle.std.specs.Prelude.{Bool, not, cond, ◌&&◌, List, map, ℕ, eqb, leb, length}
+use Rattle.std.specs.Prelude.{Bool, not, cond, ◌&&◌, List, map, ℕ, eqb, leb, length, Option, Some, None, Ok, Err}
 use Rattle.wire.specs.Reading.{part}
 use Rattle.model.specs.declared.Client.{Client}
 use Rattle.model.specs.declared.Client.TheVariants.{Verification, Ciphering}
@@ -24,14 +24,13 @@ use Rattle.cosem.specs.declared.Tag.{Tag}
 use Rattle.cosem.specs.declared.Tag.TheVariants.{Aarq, Rlrq, PlainRequest, GlobalAction, DedicatedRequest, Unknown}
 use Rattle.cosem.specs.declared.ServiceKind.{ServiceKind}
 use Rattle.cosem.specs.declared.Reading.{Reading}
-use Rattle.cosem.specs.declared.Reading.TheVariants.{Asks, GoesOn, Malformed}
+use Rattle.cosem.specs.declared.Reading.TheVariants.{Asks, GoesOn}
 use Rattle.cosem.specs.Tags.{dedicated_tag, tag_in, is_release}
 use Rattle.cosem.specs.Requests.{read_action, read_service, requested}
 use Rattle.acse.specs.Aarq.{read_aarq}
 use Rattle.counters.specs.Window.{in_window}
 use Rattle.material.specs.Material.{Keys}
 use Rattle.envelope.specs.declared.Shape.{Shape}
-use Rattle.envelope.specs.declared.Shape.TheVariants.{Misshapen, Shaped}
 use Rattle.envelope.specs.Opening.{shape_of, Opened, fails, opens, opened}
 use Rattle.protocol.specs.declared.Secrets.{Secrets}
 use Rattle.protocol.specs.Clients.{ciphering, peer, counters, agreed_in, selective_in, blocks_in, lent_keys, dedicated_keys, permitted, bit_agreed, is_unknown}
@@ -41,21 +40,20 @@ use Rattle.call_tests.specs.declared.LineTest.TheVariants.{LinkUpWithInformation
 use Rattle.call_tests.specs.declared.BodyTest.{BodyTest}
 use Rattle.call_tests.specs.declared.BodyTest.TheVariants.{NameUnknown, ClassWrong, NotServed, ParameterShape, EntriesWrong, RangeWrong, AnswerTooLong, TransferEnded, NoTransfer, BlockNumber}
 use Rattle.call_tests.specs.declared.CallTest.TheVariants.{Lent as OfLent, Sound as OfState, Frame as OfFrame, Line as OfLine, Body as OfBody}
-use Rattle.call_tests.specs.declared.Finding.{Finding}
-use Rattle.call_tests.specs.declared.Finding.TheVariants.{Fails, Passes}
+use Rattle.call_tests.specs.Finding.{Finding}
 use Rattle.call_tests.specs.Tests.{aarq_accepted, call_fails, first_failing, lent_tests}
 
 -- a test of the line fails
 abbrev pub fault : LineTest → Finding
-fault t = Fails (OfLine t)
+fault t = Err (OfLine t)
 
 -- Links.
 
 unfoldable pub link_up_finds : Line → Client → (information : Bool) → Finding
-link_up_finds l c information = cond information (fault LinkUpWithInformation) (cond (held_by_p5 c l) (fault P5HoldsV) Passes)
+link_up_finds l c information = cond information (fault LinkUpWithInformation) (cond (held_by_p5 c l) (fault P5HoldsV) (Ok tt))
 
 unfoldable pub link_down_finds : Line → Client → Finding
-link_down_finds l c = cond (peer c l).up Passes (fault LinkDownWhileDown)
+link_down_finds l c = cond (peer c l).up (Ok tt) (fault LinkDownWhileDown)
 
 -- A request for the body, by its result code. 13 is the range's or the entries' by the selector.
 
@@ -72,9 +70,9 @@ code_test t c =
     (cond (eqb c 13) t AnswerTooLong))))
 
 abbrev pub result_finds : (thirteen : BodyTest) → Result → Finding
-result_finds t (granted d) = Passes
-result_finds t (begun x d) = Passes
-result_finds t (denied c) = Fails (OfBody (code_test t c))
+result_finds t (granted d) = Ok tt
+result_finds t (begun x d) = Ok tt
+result_finds t (denied c) = Err (OfBody (code_test t c))
 
 abbrev pub service_finds : Request → Body → Meaning → Service → Finding
 service_finds q b w (get attribute s) = result_finds (selector_wrong s) (attribute_read q attribute s b w)
@@ -86,24 +84,24 @@ body_finds b q = service_finds q b (meaning q.client q.name b.store.registers) q
 -- A numbered request, by the transfer.
 
 abbrev pub number_finds : (number : ℕ) → Transfer → Finding
-number_finds n ended = Fails (OfBody TransferEnded)
-number_finds n idle = Fails (OfBody NoTransfer)
-number_finds n (running x k) = cond (eqb n k) Passes (Fails (OfBody BlockNumber))
+number_finds n ended = Err (OfBody TransferEnded)
+number_finds n idle = Err (OfBody NoTransfer)
+number_finds n (running x k) = cond (eqb n k) (Ok tt) (Err (OfBody BlockNumber))
 
 -- an APDU or a text that is read as a request of the client, or as a numbered one
-abbrev pub asked_finds : Line → Body → Client → List ℕ → Reading → Finding
-asked_finds l b c text Malformed = fault MalformedApdu
-asked_finds l b c text (Asks q) = body_finds b (requested c (selective_in c l) (blocks_in c l) text q)
-asked_finds l b c text (GoesOn i n) = cond (blocks_in c l) (number_finds n b.transfer) (fault MalformedApdu)
+abbrev pub asked_finds : Line → Body → Client → List ℕ → Option Reading → Finding
+asked_finds l b c text None = fault MalformedApdu
+asked_finds l b c text (Some (Asks q)) = body_finds b (requested c (selective_in c l) (blocks_in c l) text q)
+asked_finds l b c text (Some (GoesOn i n)) = cond (blocks_in c l) (number_finds n b.transfer) (fault MalformedApdu)
 
 -- The challenge.
 
-abbrev pub answer_finds : Line → Secrets → CipherClient → (counter : ℕ) → (text : List ℕ) → Reading → Finding
-answer_finds l a c counter text Malformed = fault MalformedApdu
-answer_finds l a c counter text (Asks q) =
-    cond (is_challenge c text q) (cond (proves_itself l a c counter text q) Passes (fault WrongProof)) (fault NotTheChallenge)
+abbrev pub answer_finds : Line → Secrets → CipherClient → (counter : ℕ) → (text : List ℕ) → Option Reading → Finding
+answer_finds l a c counter text None = fault MalformedApdu
+answer_finds l a c counter text (Some (Asks q)) =
+    cond (is_challenge c text q) (cond (proves_itself l a c counter text q) (Ok tt) (fault WrongProof)) (fault NotTheChallenge)
 -- never reached: an ACTION is no numbered request
-answer_finds l a c counter text (GoesOn i n) = fault MalformedApdu
+answer_finds l a c counter text (Some (GoesOn i n)) = fault MalformedApdu
 
 -- Envelopes.
 
@@ -111,9 +109,9 @@ abbrev pub opened_finds : (accepted : ℕ) → Opened → ((counter : ℕ) → (
 opened_finds accepted fails inside = fault EnvelopeTag
 opened_finds accepted (opens counter text) inside = cond (in_window accepted counter) (inside counter text) (fault CounterWindow)
 
-abbrev pub shape_finds : Shape → Finding → Finding
-shape_finds Misshapen rest = fault EnvelopeShape
-shape_finds (Shaped counter from to) rest = rest
+abbrev pub shape_finds : Option Shape → Finding → Finding
+shape_finds None rest = fault EnvelopeShape
+shape_finds (Some x) rest = rest
 
 unfoldable pub envelope_finds : Line → CipherClient → Keys → (tag : ℕ) → List ℕ → ((counter : ℕ) → (text : List ℕ) → Finding) → Finding
 envelope_finds l c k tag s inside =
@@ -134,10 +132,10 @@ request_finds l b ak k s c =
 -- APDUs.
 
 unfoldable pub aarq_finds : Line → Secrets → Client → List ℕ → Finding
-aarq_finds l a c s = cond (aarq_accepted l a c s (read_aarq s c (peer c l).title)) Passes (fault AarqNotAccepted)
+aarq_finds l a c s = cond (aarq_accepted l a c s (read_aarq s c (peer c l).title)) (Ok tt) (fault AarqNotAccepted)
 
 unfoldable pub release_finds : List ℕ → Finding
-release_finds s = cond (is_release s) Passes (fault MalformedApdu)
+release_finds s = cond (is_release s) (Ok tt) (fault MalformedApdu)
 
 abbrev pub by_tag_finds : Line → Body → Secrets → Client → List ℕ → Tag → Finding
 by_tag_finds l b a c s Aarq = aarq_finds l a c s
@@ -161,8 +159,8 @@ carried_finds l b a c s =
 -- Frames.
 
 abbrev pub heard_finds : Line → Body → Secrets → (received : List ℕ) → Frame → Finding
-heard_finds l b a f (Unanswered t) = Fails (OfFrame t)
-heard_finds l b a f (Rejected t h) = Fails (OfFrame t)
+heard_finds l b a f (Unanswered t) = Err (OfFrame t)
+heard_finds l b a f (Rejected t h) = Err (OfFrame t)
 heard_finds l b a f (LinkUp c h information) = link_up_finds l c information
 heard_finds l b a f (LinkDown c h) = link_down_finds l c
 heard_finds l b a f (Apdu c h from to) = carried_finds l b a c (part from to f)
@@ -170,8 +168,8 @@ heard_finds l b a f (Apdu c h from to) = carried_finds l b a c (part from to f)
 -- A call: what is lent and the state by their stretches of the list, then the frame.
 
 abbrev pub or_else : Finding → Finding → Finding
-or_else (Fails t) y = Fails t
-or_else Passes y = y
+or_else (Err t) y = Err t
+or_else (Ok _) y = y
 
 unfoldable pub lent_finds : Model → Lent → Finding
 lent_finds m a = first_failing (call_fails m a) (map OfLent lent_tests)
@@ -182,13 +180,13 @@ state_finds m a = first_failing (call_fails m a) (map OfState soundness_tests)
 -- the state's, in its three parts
 
 abbrev pub unsound : SoundnessTest → Finding
-unsound t = Fails (OfState t)
+unsound t = Err (OfState t)
 
 unfoldable pub rows_finds : Body → Finding
 rows_finds b =
     cond (not (every (λ i r. valid_clock r.clock) 0 b.store.rows)) (unsound RowClocksValid)
     (cond (not (leb (length b.store.rows) max_rows)) (unsound RowCount)
-    (cond (not (every (λ i r. eqb (length r.cells) (length b.store.columns)) 0 b.store.rows)) (unsound RowCells) Passes))
+    (cond (not (every (λ i r. eqb (length r.cells) (length b.store.columns)) 0 b.store.rows)) (unsound RowCells) (Ok tt)))
 
 unfoldable pub body_state_finds : Body → Finding
 body_state_finds b =
@@ -200,10 +198,10 @@ body_state_finds b =
 unfoldable pub line_state_finds : Line → Finding
 line_state_finds l =
     cond (not (kinds_known l)) (unsound AssociationKind)
-    (cond (not (links_stand l)) (unsound AssociationOnLink) (cond (not (services_offered l)) (unsound AgreedServices) Passes))
+    (cond (not (links_stand l)) (unsound AssociationOnLink) (cond (not (services_offered l)) (unsound AgreedServices) (Ok tt)))
 
 unfoldable pub transfer_finds : Line → Body → Finding
-transfer_finds l b = cond (not (allowed l b.transfer && rows_allow b.store b.transfer)) (unsound TransferPossible) Passes
+transfer_finds l b = cond (not (allowed l b.transfer && rows_allow b.store b.transfer)) (unsound TransferPossible) (Ok tt)
 
 unfoldable pub road_finds : Model → Lent → Finding
 road_finds m a =

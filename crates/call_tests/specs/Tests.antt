@@ -1,7 +1,7 @@
 -- The tests of a frame call (document 02, Q-2: "the test that failed .. one for each test of 01"; and those of Q-4): what a call
 -- looks like that fails each, by itself and whatever the others say; and their order. A test looks at the meter and at what is
 -- lent, by the fields and the readers that it is about. A call that it is not about passes it: no link-up fails a test of APDUs.
-use Rattle.std.specs.Prelude.{Bool, true, false, not, cond, ◌&&◌, ◌||◌, List, [], ◌∷◌, ◌++◌, map, ℕ, eqb, ltb, leb, length, drop}
+use Rattle.std.specs.Prelude.{Bool, true, false, not, cond, ◌&&◌, ◌||◌, List, [], ◌∷◌, ◌++◌, map, ℕ, eqb, ltb, leb, length, drop, Option, Some, None, Ok, Err}
 use Rattle.wire.specs.Reading.{part}
 use Rattle.model.specs.declared.Client.{Client}
 use Rattle.model.specs.declared.Client.TheVariants.{Verification, Ciphering}
@@ -20,13 +20,12 @@ use Rattle.cosem.specs.declared.Tag.{Tag}
 use Rattle.cosem.specs.declared.Tag.TheVariants.{Aarq, Rlrq, PlainRequest, GlobalAction, DedicatedRequest, Unknown}
 use Rattle.cosem.specs.declared.Asked.{Asked}
 use Rattle.cosem.specs.declared.Reading.{Reading}
-use Rattle.cosem.specs.declared.Reading.TheVariants.{Asks, GoesOn, Malformed}
+use Rattle.cosem.specs.declared.Reading.TheVariants.{Asks, GoesOn}
 use Rattle.cosem.specs.Tags.{dedicated_tag, tag_in, is_release}
 use Rattle.cosem.specs.Requests.{read_action, read_service, requested}
 use Rattle.acse.specs.declared.Aarq.{Aarq as ReadAarq}
-use Rattle.acse.specs.declared.Aarq.TheVariants.{Plain, Ciphered, Departs}
+use Rattle.acse.specs.declared.Aarq.TheVariants.{Plain, Ciphered}
 use Rattle.acse.specs.declared.InitiateRequest.{InitiateRequest}
-use Rattle.acse.specs.declared.InitiateRequest.TheVariants.{Accepted, Departs as RequestDeparts}
 use Rattle.acse.specs.Clients.{ciphers}
 use Rattle.acse.specs.Initiate.{read_request}
 use Rattle.acse.specs.Aarq.{read_aarq}
@@ -34,7 +33,6 @@ use Rattle.gcm.specs.Gcm.{authentic}
 use Rattle.counters.specs.Window.{in_window}
 use Rattle.material.specs.Material.{Keys, nonce, associated_data}
 use Rattle.envelope.specs.declared.Shape.{Shape}
-use Rattle.envelope.specs.declared.Shape.TheVariants.{Misshapen, Shaped}
 use Rattle.envelope.specs.Opening.{shape_of, Opened, fails as stays, opens, opened}
 use Rattle.protocol.specs.declared.Secrets.{Secrets}
 use Rattle.protocol.specs.Clients.{ciphering, peer, counters, agreed_in, selective_in, blocks_in, lent_keys, dedicated_keys, permitted, bit_agreed, is_unknown}
@@ -46,8 +44,7 @@ use Rattle.call_tests.specs.declared.LineTest.TheVariants.{LinkUpWithInformation
 use Rattle.call_tests.specs.declared.BodyTest.{BodyTest}
 use Rattle.call_tests.specs.declared.BodyTest.TheVariants.{NameUnknown, ClassWrong, NotServed, ParameterShape, EntriesWrong, RangeWrong, AnswerTooLong, TransferEnded, NoTransfer, BlockNumber}
 use Rattle.call_tests.specs.declared.CallTest.{CallTest}
-use Rattle.call_tests.specs.declared.Finding.{Finding}
-use Rattle.call_tests.specs.declared.Finding.TheVariants.{Fails, Passes}
+use Rattle.call_tests.specs.Finding.{Finding}
 use Rattle.call_tests.specs.declared.CallTest.TheVariants.{Lent as OfLent, Sound as OfState, Frame as OfFrame, Line as OfLine, Body as OfBody}
 
 -- What is lent.
@@ -97,9 +94,9 @@ abbrev pub on_opened : Opened → ((counter : ℕ) → (text : List ℕ) → Boo
 on_opened stays g = false
 on_opened (opens counter text) g = g counter text
 
-abbrev pub initiate_accepted : InitiateRequest → Bool
-initiate_accepted (Accepted k s) = true
-initiate_accepted RequestDeparts = false
+abbrev pub initiate_accepted : Option InitiateRequest → Bool
+initiate_accepted (Some x) = true
+initiate_accepted None = false
 
 -- V's is plain; that of a client that ciphers has its initiate request in an envelope, tag 21, under GUK
 abbrev pub ciphered_accepted : Line → Secrets → Client → (envelope : List ℕ) → Bool
@@ -108,10 +105,10 @@ ciphered_accepted l a (Ciphering c) e =
     on_opened (opened (lent_keys a) (ciphering c l).peer.title 0x21 e) (λ counter text. initiate_accepted (read_request text))
 
 -- "any departure, an envelope that does not open included, is refusal 11"
-abbrev pub aarq_accepted : Line → Secrets → Client → List ℕ → ReadAarq → Bool
-aarq_accepted l a c s (Plain p) = not (ciphers c)
-aarq_accepted l a c s (Ciphered d e) = ciphered_accepted l a c (drop e s)
-aarq_accepted l a c s Departs = false
+abbrev pub aarq_accepted : Line → Secrets → Client → List ℕ → Option ReadAarq → Bool
+aarq_accepted l a c s (Some (Plain p)) = not (ciphers c)
+aarq_accepted l a c s (Some (Ciphered d e)) = ciphered_accepted l a c (drop e s)
+aarq_accepted l a c s None = false
 
 -- An envelope outside an AARQ.
 
@@ -125,14 +122,14 @@ on_envelope l a (Ciphering c) GlobalAction g = g c (lent_keys a) 0xCB
 on_envelope l a (Ciphering c) (DedicatedRequest k) g = g c (dedicated_keys a.ak c l) (dedicated_tag k)
 on_envelope l a (Ciphering c) Unknown g = false
 
-abbrev pub is_misshapen : Shape → Bool
-is_misshapen Misshapen = true
-is_misshapen (Shaped counter from to) = false
+abbrev pub is_misshapen : Option Shape → Bool
+is_misshapen None = true
+is_misshapen (Some x) = false
 
 -- the counter that stands in it, and the places of cipher text and GCM tag
-abbrev pub on_shaped : Shape → ((counter from to : ℕ) → Bool) → Bool
-on_shaped Misshapen g = false
-on_shaped (Shaped counter from to) g = g counter from to
+abbrev pub on_shaped : Option Shape → ((counter from to : ℕ) → Bool) → Bool
+on_shaped None g = false
+on_shaped (Some x) g = g x.counter x.text x.tag
 
 -- the GCM tag is not that of the cipher text
 abbrev pub forged : Keys → (title : List ℕ) → List ℕ → (counter from to : ℕ) → Bool
@@ -146,21 +143,21 @@ on_inside l a c s t g = on_envelope l a c t (λ d k tag. on_opened (opened k (ci
 -- A request, by itself or in an envelope.
 
 -- it cannot be read; or it is a numbered request: "without the bit it stays malformed"
-abbrev pub is_malformed : (blocks : Bool) → Reading → Bool
-is_malformed blocks Malformed = true
-is_malformed blocks (Asks q) = false
-is_malformed blocks (GoesOn i n) = not blocks
+abbrev pub is_malformed : (blocks : Bool) → Option Reading → Bool
+is_malformed blocks None = true
+is_malformed blocks (Some (Asks q)) = false
+is_malformed blocks (Some (GoesOn i n)) = not blocks
 
-abbrev pub on_asks : Reading → (Asked → Bool) → Bool
-on_asks Malformed g = false
-on_asks (Asks q) g = g q
-on_asks (GoesOn i n) g = false
+abbrev pub on_asks : Option Reading → (Asked → Bool) → Bool
+on_asks None g = false
+on_asks (Some (Asks q)) g = g q
+on_asks (Some (GoesOn i n)) g = false
 
 -- what is asked of the body: a request of the client, with what was agreed, or a numbered request
-abbrev pub on_inquiry : Line → Client → List ℕ → Reading → (Inquiry → Bool) → Bool
-on_inquiry l c s Malformed g = false
-on_inquiry l c s (Asks q) g = g (ask (requested c (selective_in c l) (blocks_in c l) s q))
-on_inquiry l c s (GoesOn i n) g = blocks_in c l && g (go_on i n)
+abbrev pub on_inquiry : Line → Client → List ℕ → Option Reading → (Inquiry → Bool) → Bool
+on_inquiry l c s None g = false
+on_inquiry l c s (Some (Asks q)) g = g (ask (requested c (selective_in c l) (blocks_in c l) s q))
+on_inquiry l c s (Some (GoesOn i n)) g = blocks_in c l && g (go_on i n)
 
 -- "a malformed APDU other than an AARQ"; an ACTION is no numbered request
 abbrev pub malformed_in : Line → Secrets → Client → List ℕ → Tag → Bool
@@ -376,8 +373,8 @@ call_tests = map OfLent lent_tests ++ (map OfState soundness_tests ++ (map OfFra
 
 -- the first test of a list that fails
 unfoldable pub first_failing : (CallTest → Bool) → List CallTest → Finding
-first_failing g [] = Passes
-first_failing g (t ∷ ts) = cond (g t) (Fails t) (first_failing g ts)
+first_failing g [] = Ok tt
+first_failing g (t ∷ ts) = cond (g t) (Err t) (first_failing g ts)
 
 -- what a call comes to
 unfoldable pub found : Model → Lent → Finding

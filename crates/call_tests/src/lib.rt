@@ -1,7 +1,10 @@
 // The tests of a frame call: every test of documents 01 and 02 that a frame can fail, from the reply room to the number of a block,
-// by its name. specs/ has what each looks at, their order and what is claimed of the first that fails; proofs/ has the proofs. There
-// are no functions: the crate diagnosis has them.
+// by its name. specs/ has what each looks at, their order and what is claimed of the first that fails; proofs/ has the proofs. The
+// crate diagnosis has the functions that find it.
 #![tactic(auto)]
+
+ghost use Rattle.std.specs.Prelude.{◌≡◌};
+ghost use Rattle.call_tests.specs.declared.CallTest.TheVariants.{Lent as OfLent, Sound as OfState, Frame as OfFrame, Line as OfLine, Body as OfBody};
 
 use hdlc::FrameTest;
 use model::SoundnessTest;
@@ -60,8 +63,44 @@ pub enum CallTest {
 }
 
 // What a call comes to: the first test that it fails, or none.
-#[derive(Clone, Copy)]
-pub enum Finding {
-    Fails(CallTest),
-    Passes,
+pub type Finding = Result<(), CallTest>;
+
+impl From<LentTest> for CallTest {
+    ghost from_gives = { λ t c. c ≡ OfLent t };
+
+    fn from(test: LentTest) -> CallTest {
+        CallTest::Lent(test)
+    }
+}
+
+impl From<SoundnessTest> for CallTest {
+    ghost from_gives = { λ t c. c ≡ OfState t };
+
+    fn from(test: SoundnessTest) -> CallTest {
+        CallTest::Sound(test)
+    }
+}
+
+impl From<FrameTest> for CallTest {
+    ghost from_gives = { λ t c. c ≡ OfFrame t };
+
+    fn from(test: FrameTest) -> CallTest {
+        CallTest::Frame(test)
+    }
+}
+
+impl From<LineTest> for CallTest {
+    ghost from_gives = { λ t c. c ≡ OfLine t };
+
+    fn from(test: LineTest) -> CallTest {
+        CallTest::Line(test)
+    }
+}
+
+impl From<BodyTest> for CallTest {
+    ghost from_gives = { λ t c. c ≡ OfBody t };
+
+    fn from(test: BodyTest) -> CallTest {
+        CallTest::Body(test)
+    }
 }

@@ -15,9 +15,9 @@ use Rattle.model.proofs.AllowedNumbers.{lent_allowed}
 use Rattle.meter.specs.View.{view}
 use Rattle.protocol.specs.Decide.{p2}
 use Rattle.protocol.proofs.Claim.{p2_numbers_allowed}
-use Rattle.image.specs.declared.Status.{Status}
-use Rattle.image.specs.declared.Status.TheVariants.{Whole, WrongLength, WrongVersion, NoImage}
-use Rattle.image.specs.Image.{image_size, meter_of, status_of, image_refusal, wrong_length, wrong_version, not_sound}
+use Rattle.std.specs.Prelude.{Ok, Err}
+use Rattle.image.specs.declared.ImageFault.TheVariants.{WrongLength, WrongVersion, NoImage}
+use Rattle.image.specs.Image.{Status, image_size, meter_of, status_of, image_refusal, wrong_length, wrong_version, not_sound}
 use Rattle.image.specs.Layout.{name_part, register_part}
 use Rattle.image.specs.Lists.{whole_list}
 use Rattle.owner_calls.specs.Refusals.{wrong_argument, fault_of, sized, is_flag, fault_refusal, refusal_by, new_sized, new_refusal}
@@ -79,18 +79,18 @@ whole_number y c = go (eqb (fault c) 0) y
     go false false = refl
 
 own_number : (t : Status) (y : Bool) (c : LentOwner) → listed (refusal_by t y (fault c)) (library_numbers (call (own c))) ≡ true
-own_number Whole y c = whole_number y c
-own_number WrongLength y c = refl
-own_number WrongVersion y c = refl
-own_number NoImage y c = refl
+own_number (Ok u) y c = whole_number y c
+own_number (Err WrongLength) y c = refl
+own_number (Err WrongVersion) y c = refl
+own_number (Err NoImage) y c = refl
 
 -- Frame calls that the library refuses.
 
 image_number : (a : Lent) (t : Status) → listed (image_refusal t) (library_numbers (call (receive a))) ≡ true
-image_number a Whole = refl
-image_number a WrongLength = refl
-image_number a WrongVersion = refl
-image_number a NoImage = refl
+image_number a (Ok u) = refl
+image_number a (Err WrongLength) = refl
+image_number a (Err WrongVersion) = refl
+image_number a (Err NoImage) = refl
 
 frame_number : (a : Lent) (t : Status) (k : ℕ) → listed k (numbers (frame a)) ≡ true → listed (frame_refusal t k) (library_numbers (call (receive a))) ≡ true
 frame_number a t k e = go (eqb k 0)

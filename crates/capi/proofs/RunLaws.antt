@@ -17,10 +17,10 @@ use Rattle.meter.specs.declared.Meter.{Meter}
 use Rattle.meter.specs.View.{view}
 use Rattle.protocol.specs.Decide.{p2}
 use Rattle.protocol.proofs.Claim.{p2_demand3}
-use Rattle.image.specs.declared.Status.{Status}
-use Rattle.image.specs.declared.Status.TheVariants.{Whole, WrongLength, WrongVersion, NoImage}
+use Rattle.std.specs.Prelude.{Ok, Err}
+use Rattle.image.specs.declared.ImageFault.TheVariants.{WrongLength, WrongVersion, NoImage}
 use Rattle.image.specs.Layout.{meter_part}
-use Rattle.image.specs.Image.{version, image_size, meter_of, status_of, wrong_length}
+use Rattle.image.specs.Image.{Status, version, image_size, meter_of, whole, status_of, wrong_length}
 use Rattle.owner_calls.specs.Refusals.{wrong_argument, fault_of, refusal_by, new_sized, new_refusal}
 use Rattle.owner_calls.specs.Lending.{LentOwner, registers, value, columns, period, clock, p5, powered, fault, owner_of}
 use Rattle.owner_calls.specs.Promises.{Stores}
@@ -86,7 +86,7 @@ next_alike ch x y a = sym (ap (unchosen ch) (next_is x)) ∙ a ∙ ap (unchosen 
 -- it is made: the model's promise of the meter in the buffer, and the buffer holds a whole image again
 record Made (s e : List ℕ) (c : Call) (h : Handed Meter view) : Type 0 where
   pub promised : Promised Meter view p2 c (meter_of s) h
-  pub again : status_of e ≡ Whole
+  pub again : status_of e ≡ whole
 
 made : {s e : List ℕ} {c : LentOn} {h : Handed Meter view} → Library s e (call c) h → refusal_before (call c) s ≡ 0 → Made s e (call_of c) h
 made (receives a l o k n f) z = let x = f.called z in record { promised = x.promised; again = x.again }
@@ -109,16 +109,16 @@ record Both (ch : Chosen) (c : LentCall) (s₁ e₁ e₂ : List ℕ) (h₁ h₂ 
 -- the length of a buffer, as its status tells it
 
 abbrev is_long : Status → Bool
-is_long Whole = true
-is_long WrongLength = false
-is_long WrongVersion = true
-is_long NoImage = true
+is_long (Ok u) = true
+is_long (Err WrongLength) = false
+is_long (Err WrongVersion) = true
+is_long (Err NoImage) = true
 
 long_told : (s : List ℕ) → eqb (length s) image_size ≡ is_long (status_of s)
 unfolding status_of
 long_told s = go (eqb (length s) image_size) (eqb (get_or s 0 0) version) (meter_part.taken (drop 1 s))
   where
-    go : (b c d : Bool) → b ≡ is_long (cond b (cond c (cond d Whole NoImage) WrongVersion) WrongLength)
+    go : (b c d : Bool) → b ≡ is_long (cond b (cond c (cond d whole (Err NoImage)) (Err WrongVersion)) (Err WrongLength))
     go true true true = refl
     go true true false = refl
     go true false d = refl

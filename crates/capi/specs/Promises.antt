@@ -14,8 +14,7 @@ use Rattle.meter.specs.View.{view}
 use Rattle.protocol.specs.Decide.{p2}
 use Rattle.protocol.specs.Outcomes.{keeping}
 use Rattle.ending.specs.declared.Received.{Received}
-use Rattle.image.specs.declared.Status.TheVariants.{Whole}
-use Rattle.image.specs.Image.{image_size, meter_of, status_of}
+use Rattle.image.specs.Image.{image_size, meter_of, whole, status_of}
 use Rattle.owner_calls.specs.Promises.{image_for, handed_back, Stores}
 use Rattle.capi.specs.Refusals.{frame_refusal}
 
@@ -23,7 +22,7 @@ use Rattle.capi.specs.Refusals.{frame_refusal}
 pub record Receives (a : Lent) (s e l o : List ℕ) (k n : ℕ) : Type 0 where
   pub promised : Promised Meter view p2 (frame a) (meter_of s) (handed_back n k e l o)
   pub bytes : listed n keeping ≡ false → e ≡ image_for (step p2 (frame a) (view (meter_of s))).next
-  pub again : status_of e ≡ Whole
+  pub again : status_of e ≡ whole
 
 -- the end of a call, in a buffer of the right length
 pub record FrameEnds (r : Received) (s e : List ℕ) (n : ℕ) : Type 0 where

@@ -6,9 +6,9 @@
 // include/birlimock.h has the calls as C sees them.
 #![tactic(auto)]
 
-mod frame;
-
 ghost use Rattle.std.specs.Prelude.{◌≡◌, length};
+ghost use Rattle.model.specs.Periods.{listed};
+ghost use Rattle.protocol.specs.Outcomes.{keeping};
 ghost use Rattle.image.specs.Image.{image_size};
 ghost use Rattle.owner_calls.specs.Lending.{LentOwner};
 ghost use Rattle.owner_calls.specs.Promises.{NewCalled, OwnerCalled};
@@ -18,6 +18,7 @@ ghost use Rattle.capi.specs.Version.{library_version};
 
 use ending::Received;
 use image::SIZE;
+use owner_calls::number_of;
 
 // 3.0.1, in one number.
 const VERSION: u32 = 30001;
@@ -49,7 +50,7 @@ pub extern "C" fn birlimock_new(
 ) -> u8
     ensures { NewCalled device.now title.now v_title.now h_title.now state.old state.new result }
 {
-    owner_calls::new(state, device, title, v_title, h_title)
+    number_of(owner_calls::new(state, device, title, v_title, h_title))
 }
 
 // Registers are given anew. Refusals 101, 102, 3 and 16.
@@ -57,7 +58,7 @@ pub extern "C" fn birlimock_new(
 pub extern "C" fn birlimock_give_registers(state: &mut [u8], registers: &[u8]) -> u8
     ensures { OwnerCalled (LentOwner.registers registers.now) state.old state.new result }
 {
-    owner_calls::give_registers(state, registers)
+    number_of(owner_calls::give_registers(state, registers))
 }
 
 // The value of a register is set. Refusals 101, 102, 3 and 17.
@@ -65,7 +66,7 @@ pub extern "C" fn birlimock_give_registers(state: &mut [u8], registers: &[u8]) -
 pub extern "C" fn birlimock_set_value(state: &mut [u8], name: &[u8], value: u32) -> u8
     ensures { OwnerCalled (LentOwner.value name.now value) state.old state.new result }
 {
-    owner_calls::set_value(state, name, value)
+    number_of(owner_calls::set_value(state, name, value))
 }
 
 // Columns are set. Refusals 101, 102, 3 and 18.
@@ -73,7 +74,7 @@ pub extern "C" fn birlimock_set_value(state: &mut [u8], name: &[u8], value: u32)
 pub extern "C" fn birlimock_set_columns(state: &mut [u8], names: &[u8]) -> u8
     ensures { OwnerCalled (LentOwner.columns names.now) state.old state.new result }
 {
-    owner_calls::set_columns(state, names)
+    number_of(owner_calls::set_columns(state, names))
 }
 
 // The capture period is set. Refusals 101, 102, 3 and 15.
@@ -81,7 +82,7 @@ pub extern "C" fn birlimock_set_columns(state: &mut [u8], names: &[u8]) -> u8
 pub extern "C" fn birlimock_set_period(state: &mut [u8], period: u32) -> u8
     ensures { OwnerCalled (LentOwner.period period) state.old state.new result }
 {
-    owner_calls::set_period(state, period)
+    number_of(owner_calls::set_period(state, period))
 }
 
 // The clock moves on. Refusals 101, 102, 3 and 14.
@@ -89,7 +90,7 @@ pub extern "C" fn birlimock_set_period(state: &mut [u8], period: u32) -> u8
 pub extern "C" fn birlimock_tick(state: &mut [u8], clock: &[u8]) -> u8
     ensures { OwnerCalled (LentOwner.clock clock.now) state.old state.new result }
 {
-    owner_calls::tick(state, clock)
+    number_of(owner_calls::tick(state, clock))
 }
 
 // The P5 flag is set by 1 and cleared by 0. Refusals 101, 102, 3 and 104.
@@ -97,7 +98,7 @@ pub extern "C" fn birlimock_tick(state: &mut [u8], clock: &[u8]) -> u8
 pub extern "C" fn birlimock_set_p5(state: &mut [u8], held: u32) -> u8
     ensures { OwnerCalled (LentOwner.p5 held) state.old state.new result }
 {
-    owner_calls::set_p5(state, held)
+    number_of(owner_calls::set_p5(state, held))
 }
 
 // Power-up. Refusals 101, 102 and 3.
@@ -105,11 +106,12 @@ pub extern "C" fn birlimock_set_p5(state: &mut [u8], held: u32) -> u8
 pub extern "C" fn birlimock_power_up(state: &mut [u8]) -> u8
     ensures { OwnerCalled LentOwner.powered state.old state.new result }
 {
-    owner_calls::power_up(state)
+    number_of(owner_calls::power_up(state))
 }
 
 // A frame is received; `sent` is how many bytes of the reply room go out. Refusals 1 and 2, then 101, 102 and 3, then 4 to 13.
 #[unsafe(no_mangle)]
+#[tactic(auto, using(crate::proofs::FrameLaws::refused_before, crate::proofs::FrameLaws::called_on_image))]
 pub extern "C" fn birlimock_receive(
     state: &mut [u8],
     frame: &[u8],
@@ -122,11 +124,14 @@ pub extern "C" fn birlimock_receive(
     ensures { FrameCalled (lent (length reply.old) guk.now ak.now challenge.now frame.now) state.old state.new reply.old reply.new sent.new result }
 {
     *sent = 0;
-    let n = frame::refusal_of(state, reply.len(), guk, ak, challenge);
-    if n != 0 {
-        return n;
+    let refusal = p2::lent_refusal(reply.len(), guk, ak, challenge);
+    if refusal != 0 {
+        return refusal;
     }
-    let meter = image::meter_in(state);
+    let meter = match image::read_image(state) {
+        Ok(meter) => meter,
+        Err(fault) => return fault.number(),
+    };
     let received = p2::receive(meter, frame, guk, ak, challenge, reply);
     *sent = received.count;
     frame_end(received, state)
@@ -136,11 +141,16 @@ pub extern "C" fn birlimock_receive(
 fn frame_end(received: Received, state: &mut [u8]) -> u8
     ensures { FrameEnds received state.old state.new result }
 {
-    let n = received.refusal;
-    if frame::leaves_meter(n) {
-        return n;
+    if !leaves_meter(received.refusal) {
+        // the buffer has the size of an image
+        let _ = image_write::write_image(received.meter.cleared(), state);
     }
-    let meter = received.meter;
-    image_write::write_image(meter.cleared(), state);
-    n
+    received.refusal
+}
+
+// Whether a frame call that answers this number leaves the meter unchanged.
+fn leaves_meter(number: u8) -> bool
+    ensures { result ≡ listed number keeping }
+{
+    matches!(number, 1..=6 | 8..=11)
 }

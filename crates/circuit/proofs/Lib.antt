@@ -1,3 +1,4 @@
 pub mod HalfLaws
 pub mod LayoutLaws
 pub mod Circuits
+pub mod TurnLaws

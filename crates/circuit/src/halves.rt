@@ -8,6 +8,7 @@ ghost use Rattle.sbox.specs.Halves.{scaled_square, «norm» as norm_of};
 ghost use Rattle.circuit.specs.Layout.{half_at, whole_at};
 
 use planes::Planes;
+use std::ops::BitXor;
 
 // A half of the byte in each lane, by its four bits.
 #[derive(Clone, Copy)]
@@ -88,7 +89,7 @@ pub fn affine_out(h: Halves) -> Planes
 fn norm(m: Half, n: Half) -> Half
     ensures { (j : ℕ) → half_at j result ≡ norm_of (half_at j m) (half_at j n) }
 {
-    add(times(m, n), scaled_square(m, n))
+    times(m, n) ^ scaled_square(m, n)
 }
 
 // What the norm has besides the product: the square of the sum, times a constant.
@@ -108,14 +109,18 @@ fn scaled_square(m: Half, n: Half) -> Half
 }
 
 // The sum of halves.
-fn add(m: Half, n: Half) -> Half
-    ensures { (j : ℕ) → half_at j result ≡ bit_xor (half_at j m) (half_at j n) }
-{
-    Half {
-        a: m.a ^ n.a,
-        b: m.b ^ n.b,
-        c: m.c ^ n.c,
-        d: m.d ^ n.d,
+impl BitXor for Half {
+    type Output = Half;
+
+    ghost bitxor_gives = { λ m n r. (j : ℕ) → half_at j r ≡ bit_xor (half_at j m) (half_at j n) };
+
+    fn bitxor(self, other: Half) -> Half {
+        Half {
+            a: self.a ^ other.a,
+            b: self.b ^ other.b,
+            c: self.c ^ other.c,
+            d: self.d ^ other.d,
+        }
     }
 }
 

@@ -9,7 +9,7 @@ ghost use Rattle.circuit.specs.Layout.{Substituted, RowsShifted, ColumnsMixed};
 
 use halves::{affine_out, into_halves, inverse};
 use planes::Planes;
-use turns::{double, half_turn, shifted, turn};
+use turns::{double, shifted, turned};
 
 // SubBytes: the substitute of the byte in each lane, by the rule of FIPS 197, the inverse and then the affine map.
 pub fn sub_bytes(p: Planes) -> Planes
@@ -22,23 +22,14 @@ pub fn sub_bytes(p: Planes) -> Planes
 pub fn shift_rows(p: Planes) -> Planes
     ensures { RowsShifted p result }
 {
-    Planes {
-        p0: shifted(p.p0),
-        p1: shifted(p.p1),
-        p2: shifted(p.p2),
-        p3: shifted(p.p3),
-        p4: shifted(p.p4),
-        p5: shifted(p.p5),
-        p6: shifted(p.p6),
-        p7: shifted(p.p7),
-    }
+    p.map(shifted)
 }
 
 // MixColumns: each byte doubled, with three times the byte below it in its column and the two below that, round the end.
 pub fn mix_columns(p: Planes) -> Planes
     ensures { ColumnsMixed p result }
 {
-    let below = turn(p);
-    let both = planes::xor(p, below);
-    planes::xor(planes::xor(double(both), below), half_turn(both))
+    let below = turned(p, 1);
+    let both = p ^ below;
+    (double(both) ^ below) ^ turned(both, 2)
 }

@@ -39,14 +39,6 @@ pub enum Exception {
     ServiceUnknown,
 }
 
-// The optional part of a request: its selector and value, or its parameter. Wrong where an APDU is no such request.
-#[derive(Clone, Copy)]
-pub enum Part {
-    Absent,
-    Present,
-    Wrong,
-}
-
 // What a request wants: an attribute read, a method invoked. The value of a selector or a parameter begins at `at` and ends
 // with the APDU.
 #[derive(Clone, Copy)]
@@ -76,30 +68,25 @@ pub struct Asked {
     pub wanted: Wanted,
 }
 
-// A plain APDU that was read as a request, or as one for the next block of a long answer, after the block of this number.
+// A plain APDU that was read: as a request, or as one for the next block of a long answer, after the block of this number.
 #[derive(Clone, Copy)]
 pub enum Reading {
     Asks(Asked),
     GoesOn { invoke: u8, number: u32 },
-    Malformed,
 }
 
-// The four numbers of an entry descriptor; or that a value is none.
+// The four numbers of an entry descriptor.
 #[derive(Clone, Copy)]
-pub enum Entries {
-    Described {
-        from: u32,
-        to: u32,
-        from_column: u32,
-        to_column: u32,
-    },
-    Other,
+pub struct Entries {
+    pub from: u32,
+    pub to: u32,
+    pub from_column: u32,
+    pub to_column: u32,
 }
 
-// The clocks of a range descriptor, each from its place; and whether the value is one.
+// The clocks of a range descriptor, each from its place.
 #[derive(Clone, Copy)]
 pub struct Range {
-    pub described: bool,
     pub from: Clock,
     pub to: Clock,
 }

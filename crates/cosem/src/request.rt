@@ -1,154 +1,135 @@
-// GET and ACTION requests, and those for a block: each reader says for every slice what it asks, or that it is malformed. Every
+// GET and ACTION requests, and those for a block: each reader says for every slice what it asks; none is what is malformed. Every
 // selector and every parameter is judged by the value reader of the crate axdr. specs/Requests has the places of the fields.
-ghost use Rattle.std.specs.Prelude.{◌≡◌, ◌<◌};
-ghost use Rattle.cosem.specs.Requests.{asking, asking_with, byte, last_value, name_in, optional_part, read_action, read_get, read_gets, read_next, read_service};
+ghost use Rattle.std.specs.Prelude.{◌≡◌, ◌<◌, Some};
+ghost use Rattle.cosem.specs.Requests.{asked_in, asking_with, byte, last_value, name_in, optional_part, read_action, read_get, read_gets, read_next, read_service};
 
-use crate::{Asked, Part, Reading, ServiceKind, Wanted};
+use crate::{Asked, Reading, ServiceKind, Wanted};
 use model::Name;
-use wire::{End, Field};
 
 // A GET request.
-fn read_get(apdu: &[u8]) -> Reading
+#[tactic(auto, unfolding(crate::specs::Requests::read_get))]
+fn read_get(apdu: &[u8]) -> Option<Reading>
     ensures { result ≡ read_get apdu.now }
 {
     let attribute = byte_of(apdu, 11);
-    let part = optional_part(b"\xC0\x01", apdu);
-    match part {
-        Part::Absent => asks(apdu, Wanted::Read { attribute }),
-        Part::Present => {
-            let selector = byte_of(apdu, 13);
-            asks_with(
-                apdu,
-                14,
-                Wanted::ReadSelected {
-                    attribute,
-                    selector,
-                    at: 14,
-                },
-            )
-        }
-        Part::Wrong => Reading::Malformed,
+    if !optional_part(b"\xC0\x01", apdu)? {
+        return Some(Reading::Asks(asked(apdu, Wanted::Read { attribute })));
     }
+    let selector = byte_of(apdu, 13);
+    asks_with(
+        apdu,
+        14,
+        Wanted::ReadSelected {
+            attribute,
+            selector,
+            at: 14,
+        },
+    )
 }
 
 // A request for the next block.
-fn read_next(apdu: &[u8]) -> Reading
+#[tactic(auto, unfolding(crate::specs::Requests::read_next))]
+fn read_next(apdu: &[u8]) -> Option<Reading>
     ensures { result ≡ read_next apdu.now }
 {
-    let End::At(_) = wire::expect_at(apdu, 0, b"\xC0\x02") else {
-        return Reading::Malformed;
-    };
-    let Field::Found {
-        value: number,
-        next,
-    } = wire::u32_at(apdu, 3)
-    else {
-        return Reading::Malformed;
-    };
+    wire::expect_at(apdu, 0, b"\xC0\x02")?;
+    let (number, next) = wire::number_at::<4>(apdu, 3)?;
     if next != apdu.len() {
-        return Reading::Malformed;
+        return None;
     }
     let invoke = byte_of(apdu, 2);
-    Reading::GoesOn { invoke, number }
+    Some(Reading::GoesOn { invoke, number })
 }
 
 // A request with the tag of GET, by its choice.
-fn read_gets(apdu: &[u8]) -> Reading
+#[tactic(auto, unfolding(crate::specs::Requests::read_gets))]
+fn read_gets(apdu: &[u8]) -> Option<Reading>
     ensures { result ≡ read_gets apdu.now }
 {
     if byte_of(apdu, 1) == 0x02 {
-        return read_next(apdu);
+        read_next(apdu)
+    } else {
+        read_get(apdu)
     }
-    read_get(apdu)
 }
 
 // An ACTION request.
-pub fn read_action(apdu: &[u8]) -> Reading
+#[tactic(auto, unfolding(crate::specs::Requests::read_action))]
+pub fn read_action(apdu: &[u8]) -> Option<Reading>
     ensures { result ≡ read_action apdu.now }
 {
     let method = byte_of(apdu, 11);
-    let part = optional_part(b"\xC3\x01", apdu);
-    match part {
-        Part::Absent => asks(apdu, Wanted::Invoke { method }),
-        Part::Present => asks_with(apdu, 13, Wanted::InvokeWith { method, at: 13 }),
-        Part::Wrong => Reading::Malformed,
+    if !optional_part(b"\xC3\x01", apdu)? {
+        return Some(Reading::Asks(asked(apdu, Wanted::Invoke { method })));
     }
+    asks_with(apdu, 13, Wanted::InvokeWith { method, at: 13 })
 }
 
 // A request of this service.
-pub fn read_service(kind: ServiceKind, apdu: &[u8]) -> Reading
+pub fn read_service(kind: ServiceKind, apdu: &[u8]) -> Option<Reading>
     ensures { result ≡ read_service kind apdu.now }
 {
     match kind {
         ServiceKind::Get => read_gets(apdu),
-        ServiceKind::Set => Reading::Malformed,
+        ServiceKind::Set => None,
         ServiceKind::Action => read_action(apdu),
     }
 }
 
 // The name in a request; zeros where there is no room for one.
+#[tactic(auto, unfolding(crate::specs::Requests::name_in))]
 pub fn name_in(apdu: &[u8]) -> Name
     ensures { result ≡ name_in apdu.now }
 {
     Name {
-        bytes: wire::six_at(apdu, 5),
+        bytes: wire::array_at(apdu, 5),
     }
 }
 
-// Whether the optional part of a request of this tag and choice is there.
-fn optional_part(choice: &[u8], s: &[u8]) -> Part
+// Whether the optional part of a request of this tag and choice is there; none where an APDU is no such request.
+#[tactic(auto, unfolding(crate::specs::Requests::optional_part))]
+fn optional_part(choice: &[u8], s: &[u8]) -> Option<bool>
     ensures { result ≡ optional_part choice.now s.now }
 {
-    let End::At(_) = wire::expect_at(s, 0, choice) else {
-        return Part::Wrong;
-    };
-    let Field::Found {
-        value: presence,
-        next,
-    } = wire::byte_at(s, 12)
-    else {
-        return Part::Wrong;
-    };
+    wire::expect_at(s, 0, choice)?;
+    let (presence, next) = wire::number_at::<1>(s, 12)?;
     match presence {
-        0x00 => if next == s.len() {
-            Part::Absent
-        } else {
-            Part::Wrong
-        },
-        0x01 => Part::Present,
-        _ => Part::Wrong,
+        0x00 if next == s.len() => Some(false),
+        0x01 => Some(true),
+        _ => None,
     }
 }
 
 // Whether one whole value stands at `at` and ends with the slice.
+#[tactic(auto, unfolding(crate::specs::Requests::last_value))]
 fn is_last_value(s: &[u8], at: usize) -> bool
     ensures { result ≡ last_value s.now at }
 {
-    let End::At(end) = axdr::value_end(s, at) else {
+    let Some(end) = axdr::value_end(s, at) else {
         return false;
     };
     end == s.len()
 }
 
 // The request that wants `w`.
-fn asks(s: &[u8], w: Wanted) -> Reading
-    ensures { result ≡ asking s.now w }
+fn asked(s: &[u8], w: Wanted) -> Asked
+    ensures { result ≡ asked_in s.now w }
 {
-    Reading::Asks(Asked {
+    Asked {
         invoke: byte_of(s, 2),
         class: wide(byte_of(s, 3)) * 256 + wide(byte_of(s, 4)),
         wanted: w,
-    })
+    }
 }
 
 // The request that wants `w`, where its value stands at `at` and is whole.
-fn asks_with(s: &[u8], at: usize, w: Wanted) -> Reading
+fn asks_with(s: &[u8], at: usize, w: Wanted) -> Option<Reading>
     ensures { result ≡ asking_with s.now at w }
 {
     if is_last_value(s, at) {
-        asks(s, w)
+        Some(Reading::Asks(asked(s, w)))
     } else {
-        Reading::Malformed
+        None
     }
 }
 

@@ -1,6 +1,6 @@
 // The shapes of values that a request carries, each read at the place of its value.
-ghost use Rattle.std.specs.Prelude.{◌≡◌, drop};
-ghost use Rattle.wire.specs.Reading.{then_field};
+ghost use Rattle.std.specs.Prelude.{◌≡◌, ◌≤◌, drop};
+ghost use Rattle.wire.specs.Reading.{number_at, then_field};
 ghost use Rattle.model.specs.Selecting.{is_entry_descriptor, is_range_descriptor};
 ghost use Rattle.model.specs.Objects.{is_integer};
 ghost use Rattle.cosem.specs.Entries.{entries_in};
@@ -8,17 +8,16 @@ ghost use Rattle.cosem.specs.Ranges.{clock_in, range_in};
 
 use crate::{Entries, Range};
 use model::Clock;
-use wire::Field;
 
 // The entry descriptor that begins at `at` and ends with the APDU.
-pub fn entries_at(apdu: &[u8], at: usize) -> Entries
+pub fn entries_at(apdu: &[u8], at: usize) -> Option<Entries>
     ensures { result ≡ entries_in (drop at apdu.now) }
 {
     entries_in(rest_of(apdu, at))
 }
 
 // The range descriptor that begins at `at` and ends with the APDU.
-pub fn range_at(apdu: &[u8], at: usize) -> Range
+pub fn range_at(apdu: &[u8], at: usize) -> Option<Range>
     ensures { result ≡ range_in (drop at apdu.now) }
 {
     range_in(rest_of(apdu, at))
@@ -41,71 +40,58 @@ pub fn rest_of(s: &[u8], at: usize) -> &[u8]
 fn is_integer(v: &[u8]) -> bool
     ensures { result ≡ is_integer v.now }
 {
-    if v.len() != 2 {
-        return false;
-    }
-    v[0] == 0x0F
+    v.len() == 2 && v[0] == 0x0F
 }
 
+#[tactic(auto, unfolding(model::specs::Selecting::is_entry_descriptor))]
 fn is_entry_descriptor(v: &[u8]) -> bool
     ensures { result ≡ is_entry_descriptor v.now }
 {
-    if v.len() != 18 {
-        return false;
-    }
-    if v[0] != 0x02 {
-        return false;
-    }
-    if v[1] != 0x04 {
-        return false;
-    }
-    if v[2] != 0x06 {
-        return false;
-    }
-    if v[7] != 0x06 {
-        return false;
-    }
-    if v[12] != 0x12 {
-        return false;
-    }
-    v[15] == 0x12
+    v.len() == 18
+        && v[0] == 0x02
+        && v[1] == 0x04
+        && v[2] == 0x06
+        && v[7] == 0x06
+        && v[12] == 0x12
+        && v[15] == 0x12
 }
 
-fn entries_in(v: &[u8]) -> Entries
+#[tactic(auto, unfolding(crate::specs::Entries::entries_in))]
+fn entries_in(v: &[u8]) -> Option<Entries>
     ensures { result ≡ entries_in v.now }
 {
     if !is_entry_descriptor(v) {
-        return Entries::Other;
+        return None;
     }
-    Entries::Described {
-        from: found(wire::u32_at(v, 3)),
-        to: found(wire::u32_at(v, 8)),
-        from_column: found(wire::u16_at(v, 13)),
-        to_column: found(wire::u16_at(v, 16)),
-    }
+    Some(Entries {
+        from: found::<4>(v, 3),
+        to: found::<4>(v, 8),
+        from_column: found::<2>(v, 13),
+        to_column: found::<2>(v, 16),
+    })
 }
 
-// A number that was found; 0 where there is none.
-fn found(f: Field) -> u32
-    ensures { result ≡ then_field f 0 (λ value next. value) }
+// The number of W bytes at a place; 0 where they are not there.
+fn found<const W: usize>(v: &[u8], at: usize) -> u32
+    requires { W ≤ 4 }
+    ensures { result ≡ then_field (number_at W v.now at) 0 (λ value next. value) }
 {
-    let Field::Found { value, next: _ } = f else {
-        return 0;
-    };
-    value
+    match wire::number_at::<W>(v, at) {
+        Some((value, _)) => value,
+        None => 0,
+    }
 }
 
-fn range_in(v: &[u8]) -> Range
+#[tactic(auto, unfolding(crate::specs::Ranges::range_in))]
+fn range_in(v: &[u8]) -> Option<Range>
     ensures { result ≡ range_in v.now }
 {
-    let described = is_range_descriptor(v);
+    if !is_range_descriptor(v) {
+        return None;
+    }
     let from = clock_in(v, 22);
     let to = clock_in(v, 36);
-    Range {
-        described,
-        from,
-        to,
-    }
+    Some(Range { from, to })
 }
 
 // A structure of four: the restricting object, which is the clock's attribute 2, two octet strings of twelve bytes, no columns.
@@ -131,6 +117,6 @@ fn clock_in(v: &[u8], at: usize) -> Clock
     ensures { result ≡ clock_in v.now at }
 {
     Clock {
-        bytes: wire::twelve_at(v, at),
+        bytes: wire::array_at(v, at),
     }
 }

@@ -4,9 +4,9 @@ ghost use Rattle.wire.specs.Wrote.{Wrote};
 ghost use Rattle.cosem.specs.Tags.{answer_tag, dedicated_tag, exception_bytes, is_release, release_response, tag_in, tag_of};
 
 use crate::{Exception, ServiceKind, Tag};
-use wire::Field;
 
 // The tag that a byte is.
+#[tactic(auto, unfolding(crate::specs::Tags::tag_of))]
 pub fn tag_of(first: u8) -> Tag
     ensures { result ≡ tag_of first }
 {
@@ -25,17 +25,14 @@ pub fn tag_of(first: u8) -> Tag
 }
 
 // The tag of an APDU.
+#[tactic(auto, unfolding(crate::specs::Tags::tag_in))]
 pub fn tag_in(apdu: &[u8]) -> Tag
     ensures { result ≡ tag_in apdu.now }
 {
-    let Field::Found {
-        value: first,
-        next: _,
-    } = wire::byte_at(apdu, 0)
-    else {
-        return Tag::Unknown;
-    };
-    tag_of(first as u8)
+    match wire::number_at::<1>(apdu, 0) {
+        Some((first, _)) => tag_of(first as u8),
+        None => Tag::Unknown,
+    }
 }
 
 // The tag byte of a request under the dedicated key, by its service.

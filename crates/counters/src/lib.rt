@@ -19,42 +19,28 @@ pub struct Taken {
 pub fn take(mut pair: Counters) -> Taken
     ensures { result ≡ taken pair }
 {
-    let n = advance(&mut pair);
+    let number = advance(&mut pair);
     Taken {
         counters: pair,
-        number: n,
+        number,
     }
 }
 
 // The pair is advanced where it stands, and the number to use comes back.
+#[tactic(auto, unfolding(crate::specs::Advance::taken, crate::specs::Advance::next_counter))]
 pub fn advance(c: &mut Counters) -> u32
     ensures { (result ≡ (taken c.old).number) × (c.new ≡ (taken c.old).counters) }
 {
-    let next = advanced(*c);
-    *c = next.counters;
-    next.number
-}
-
-// The same by value: what `advance` is made of.
-fn advanced(c: Counters) -> Taken
-    ensures { result ≡ taken c }
-{
-    let n = std::num::wrapping_add_u32(c.sent, 1);
-    let next = Counters {
-        accepted: c.accepted,
-        sent: n,
-    };
-    Taken {
-        counters: next,
-        number: n,
-    }
+    c.sent = c.sent.wrapping_add(1);
+    c.sent
 }
 
 // The step from the last accepted to a counter, modulo 2^32.
+#[tactic(auto, unfolding(crate::specs::Window::step_to))]
 fn step_to(accepted: u32, counter: u32) -> u32
     ensures { result ≡ step_to accepted counter }
 {
-    std::num::wrapping_sub_u32(counter, accepted)
+    counter.wrapping_sub(accepted)
 }
 
 // Whether the counter of an envelope that opened lies in its window.
@@ -63,30 +49,26 @@ pub fn is_in_window(pair: Counters, counter: u32) -> bool
     ensures { result ≡ in_window pair.accepted counter }
 {
     let step = step_to(pair.accepted, counter);
-    if step < 1 {
-        return false;
-    }
-    step <= 180
+    (1..=180).contains(&step)
 }
 
 // Whether the inner counter of a proof lies after the last accepted, by fewer steps than its envelope's.
+#[tactic(auto, unfolding(crate::specs::Window::inner_allowed))]
 pub fn is_inner_allowed(pair: Counters, outer: u32, inner: u32) -> bool
     ensures { result ≡ inner_allowed pair.accepted outer inner }
 {
     let near = step_to(pair.accepted, inner);
-    if near < 1 {
-        return false;
-    }
     let far = step_to(pair.accepted, outer);
-    near < far
+    1 <= near && near < far
 }
 
 // The pair with a counter as the last accepted.
+#[tactic(auto, unfolding(crate::specs::Window::accepting))]
 pub fn accept(pair: Counters, counter: u32) -> Counters
     ensures { result ≡ accepting pair counter }
 {
     Counters {
         accepted: counter,
-        sent: pair.sent,
+        ..pair
     }
 }

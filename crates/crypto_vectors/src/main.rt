@@ -5,110 +5,94 @@
 ghost use Rattle.std.specs.Prelude.{◌≤◌, length};
 
 use gcm::ReadyKey;
-use text::{between, bytes, bytes_12, bytes_16, field, first, print, print_hex};
+use std::io;
+use text::{Hex, array, between, bytes_in, first};
+
+// What sealing and opening go by besides the text.
+#[derive(Clone, Copy)]
+struct Given<'a> {
+    key: ReadyKey,
+    nonce: [u8; 12],
+    data: &'a [u8],
+}
 
 fn main(rt: HostRuntime) {
     let mut input = [0u8; 65536];
     let n = text::read_full(&mut rt.stdin(), &mut input);
-    each(&rt, &input[..n]);
-}
-
-fn each(printer: &impl Print, input: &[u8]) {
-    let mut at: usize = 0;
-    while at < input.len() {
-        line(printer, text::line_at(input, at));
-        at = text::after_line(input, at);
-    }
+    text::answer_lines(&rt, &input[..n], |line| outcome(&rt, line));
 }
 
 // A: a block enciphered, by key and block. The others go by key, nonce and associated data, and then: S, a text, sealed; O, a
 // cipher text and a tag, opened; M, nothing, the GMAC made; T, a tag, tested as the GMAC.
-fn line(printer: &impl Print, s: &[u8]) {
-    text::print_name(printer, s);
-    let l = text::letter(s);
-    match l {
+fn outcome(printer: &impl Print, s: &[u8]) -> io::Result<()> {
+    // A `match`, since each letter has other fields: a table of closures would be no plainer.
+    match text::letter(s) {
         b'A' => cipher(printer, s),
         b'S' | b'O' | b'M' | b'T' => fields(printer, s),
-        _ => {}
-    }
-    print(printer, b"\n");
-}
-
-fn cipher(printer: &impl Print, s: &[u8]) {
-    let w = aes::expand_key(bytes_16(s, 2));
-    print_hex(
-        printer,
-        &aes::bytes_of(aes::encrypt_block(w, aes::state_of(bytes_16(s, 3)))),
-    );
-}
-
-fn fields(printer: &impl Print, s: &[u8]) {
-    let mut aad = [0u8; 32];
-    let a = bytes(s, 4, &mut aad);
-    let mut m = [0u8; 64];
-    let n = bytes(s, 5, &mut m);
-    outcome(printer, s, first(&aad, a), first(&m, n));
-}
-
-fn outcome(printer: &impl Print, s: &[u8], aad: &[u8], m: &[u8]) {
-    let k = gcm::ready(bytes_16(s, 2));
-    let v = bytes_12(s, 3);
-    let l = text::letter(s);
-    match l {
-        b'S' => seal(printer, k, v, aad, first(m, 64)),
-        b'O' => open(printer, k, v, aad, m, &bytes_12(s, 6)),
-        b'M' => print_hex(printer, &gcm::gmac(k, v, aad)),
-        _ => text::print_bool(printer, gcm::is_authentic(k, v, aad, b"", m)),
+        _ => Ok(()),
     }
 }
 
-// The text is laid out from place 5 of a buffer on and sealed there, as a part of the buffer that is lent.
-fn seal(printer: &impl Print, k: ReadyKey, v: [u8; 12], aad: &[u8], plain: &[u8])
-    requires { length plain.now ≤ 64 }
-{
-    let mut buf = [0x5au8; 128];
-    let e = wire_write::put_all(&mut buf, 5, plain);
-    sealed(printer, k, v, aad, &mut buf, e);
+fn cipher(printer: &impl Print, s: &[u8]) -> io::Result<()> {
+    let w = aes::expand_key(array(s, 2));
+    let block = aes::bytes_of(aes::encrypt_block(w, aes::state_of(array(s, 3))));
+    print!(printer; "{}", Hex(&block))
 }
 
-// The byte before the cipher text, cipher text, tag and the byte behind the cipher text; and what it opens to from the middle of
-// the buffer.
-fn sealed(printer: &impl Print, k: ReadyKey, v: [u8; 12], aad: &[u8], buf: &mut [u8], e: usize)
-    requires { (5 ≤ e) × (e ≤ 69) × (69 ≤ length buf.old) }
-{
-    let t = gcm::seal(k, v, aad, &mut buf[5..e]);
-    print(printer, b"sealed ");
-    print_hex(printer, between(buf, 4, e));
-    print_hex(printer, &t);
-    print_hex(printer, between(buf, e, e + 1));
-    print(printer, b", ");
-    open(printer, k, v, aad, between(buf, 5, e), &t);
-}
-
-fn open(printer: &impl Print, k: ReadyKey, v: [u8; 12], aad: &[u8], c: &[u8], t: &[u8]) {
-    let mut out = [0x5au8; 128];
-    if gcm::open_into(k, v, aad, c, t, &mut out) {
-        return print_opened(printer, first(&out, c.len()));
+fn fields(printer: &impl Print, s: &[u8]) -> io::Result<()> {
+    let mut data = [0u8; 32];
+    let given = Given {
+        key: gcm::ready(array(s, 2)),
+        nonce: array(s, 3),
+        data: bytes_in(s, 4, &mut data),
+    };
+    let mut room = [0u8; 64];
+    let m = bytes_in(s, 5, &mut room);
+    match text::letter(s) {
+        b'S' => given.seal(printer, m),
+        b'O' => given.open(printer, m, &array::<12>(s, 6)),
+        b'M' => given.mac(printer),
+        _ => given.test(printer, m),
     }
-    print_refused(printer, &out);
 }
 
-// The plain text, or `-` where it is empty.
-fn print_opened(printer: &impl Print, plain: &[u8]) {
-    print(
-        printer,
-        field(b"opened |opened -", if plain.len() == 0 { 1 } else { 0 }),
-    );
-    print_hex(printer, plain);
-}
+impl Given<'_> {
+    fn mac(&self, printer: &impl Print) -> io::Result<()> {
+        let tag = gcm::gmac(self.key, self.nonce, self.data);
+        print!(printer; "{}", Hex(&tag))
+    }
 
-// A mark, where the buffer for the plain text has not kept its bytes.
-fn print_refused(printer: &impl Print, out: &[u8]) {
-    print(
-        printer,
-        field(
-            b"refused !|refused",
-            if text::all_are(out, 0x5a) { 1 } else { 0 },
-        ),
-    );
+    fn test(&self, printer: &impl Print, tag: &[u8]) -> io::Result<()> {
+        let right = gcm::is_authentic(self.key, self.nonce, self.data, b"", tag);
+        print!(printer; "{}", if right { "yes" } else { "no" })
+    }
+
+    // The text is laid out from place 5 of a buffer on and sealed there, as a part of the buffer that is lent. Printed: the byte
+    // before the cipher text, cipher text, tag and the byte behind the cipher text; and what it opens to.
+    fn seal(&self, printer: &impl Print, plain: &[u8]) -> io::Result<()>
+        requires { length plain.now ≤ 64 }
+    {
+        let mut buf = [0x5au8; 128];
+        let e = wire_write::put_all(&mut buf, 5, plain);
+        let tag = gcm::seal(self.key, self.nonce, self.data, &mut buf[5..e]);
+        let before = between(&buf, 4, e);
+        let behind = between(&buf, e, e + 1);
+        print!(printer; "sealed {}{}{}, ", Hex(before), Hex(&tag), Hex(behind))?;
+        self.open(printer, between(&buf, 5, e), &tag)
+    }
+
+    // The plain text, or `-` where it is empty. Where the text is refused: a mark, where the buffer for the plain text has not
+    // kept its bytes.
+    fn open(&self, printer: &impl Print, sealed: &[u8], tag: &[u8]) -> io::Result<()> {
+        let mut out = [0x5au8; 128];
+        if !gcm::open_into(self.key, self.nonce, self.data, sealed, tag, &mut out) {
+            let kept = text::all_are(&out, 0x5a);
+            return print!(printer; "refused{}", if kept { "" } else { " !" });
+        }
+        let plain = first(&out, sealed.len());
+        if plain.is_empty() {
+            return print!(printer; "opened -");
+        }
+        print!(printer; "opened {}", Hex(plain))
+    }
 }

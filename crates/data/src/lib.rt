@@ -4,7 +4,7 @@
 
 mod rows;
 
-ghost use Rattle.std.specs.Prelude.{◌∷◌, ◌+◌, ◌≤◌, drop, length, take};
+ghost use Rattle.std.specs.Prelude.{◌∷◌, ◌+◌, ◌<◌, ◌≤◌, drop, length, take};
 ghost use Rattle.wire.specs.Wrote.{Wrote, WroteArray};
 ghost use Rattle.model.specs.Clocks.{clock_data};
 ghost use Rattle.model.specs.Objects.{name_data, scaler_unit, unsigned16, unsigned32};
@@ -16,34 +16,38 @@ pub fn put_name(out: &mut [u8], at: usize, name: Name) -> usize
     requires { at + 8 ≤ length out.old }
     ensures { Wrote out.old at out.new result (name_data name) }
 {
-    let a = wire_write::put_all(out, at, b"\x09\x06");
-    wire_write::put_6(out, a, &name.bytes)
+    put_octets(out, at, &name.bytes)
 }
 
 pub fn put_clock(out: &mut [u8], at: usize, clock: Clock) -> usize
     requires { at + 14 ≤ length out.old }
     ensures { WroteArray 14 out.old at out.new result (clock_data clock) }
 {
-    let a = wire_write::put_all(out, at, b"\x09\x0C");
-    wire_write::put_12(out, a, &clock.bytes)
+    put_octets(out, at, &clock.bytes)
 }
 
 pub fn put_time(out: &mut [u8], at: usize, clock: Clock) -> usize
     requires { at + 6 ≤ length out.old }
     ensures { Wrote out.old at out.new result (0x09 ∷ 0x04 ∷ take 4 (drop 5 clock.bytes)) }
 {
-    let bytes = clock.bytes;
-    let a = wire_write::put_all(out, at, b"\x09\x04");
-    wire_write::put_all(out, a, &bytes[5..9])
+    put_octets(out, at, &clock.bytes[5..9])
 }
 
 pub fn put_date(out: &mut [u8], at: usize, clock: Clock) -> usize
     requires { at + 7 ≤ length out.old }
     ensures { Wrote out.old at out.new result (0x09 ∷ 0x05 ∷ take 5 clock.bytes) }
 {
-    let bytes = clock.bytes;
-    let a = wire_write::put_all(out, at, b"\x09\x05");
-    wire_write::put_all(out, a, &bytes[0..5])
+    put_octets(out, at, &clock.bytes[..5])
+}
+
+// An octet string of fewer than 128 bytes.
+fn put_octets(out: &mut [u8], at: usize, s: &[u8]) -> usize
+    requires { (length s.now < 128) × (at + 2 + length s.now ≤ length out.old) }
+    ensures { Wrote out.old at out.new result (0x09 ∷ length s.now ∷ s.now) }
+{
+    let a = wire_write::put(out, at, 0x09);
+    let b = wire_write::put(out, a, s.len() as u8);
+    wire_write::put_all(out, b, s)
 }
 
 pub fn put_unsigned16(out: &mut [u8], at: usize, n: u16) -> usize
@@ -51,7 +55,7 @@ pub fn put_unsigned16(out: &mut [u8], at: usize, n: u16) -> usize
     ensures { Wrote out.old at out.new result (unsigned16 n) }
 {
     let a = wire_write::put(out, at, 0x12);
-    wire_write::put_u16(out, a, n)
+    wire_write::put_number::<2>(out, a, n as u32)
 }
 
 pub fn put_unsigned32(out: &mut [u8], at: usize, n: u32) -> usize
@@ -59,7 +63,7 @@ pub fn put_unsigned32(out: &mut [u8], at: usize, n: u32) -> usize
     ensures { Wrote out.old at out.new result (unsigned32 n) }
 {
     let a = wire_write::put(out, at, 0x06);
-    wire_write::put_u32(out, a, n)
+    wire_write::put_number::<4>(out, a, n)
 }
 
 pub fn put_scaler_unit(out: &mut [u8], at: usize, scaler: u8, unit: u8) -> usize

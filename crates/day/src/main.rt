@@ -18,11 +18,12 @@
 #![tactic(auto)]
 
 mod display;
+mod held;
 mod play;
 mod plug;
 mod table;
 
-use display::Rows;
+use display::Text;
 use meter::Meter;
 use plug::Answer;
 use std::env::FillError;
@@ -30,8 +31,8 @@ use std::rt::Env;
 use text::{after, field, print};
 
 // The meter and its twin; the challenge that is lent, and the last answer; the meter's last counter and the text with the rows,
-// as the home display has them; whether the owner's calls were all accepted, whether any answer has told of a value, whether
-// frames are shown, and whether the play goes on.
+// as the home display has them; whether the owner's calls were all accepted, whether any answer has told of a value, and whether
+// frames are shown.
 #[derive(Clone, Copy)]
 pub struct Scene {
     pub meter: Meter,
@@ -39,139 +40,104 @@ pub struct Scene {
     pub challenge: [u8; 8],
     pub answer: Answer,
     pub counter: u32,
-    pub rows: Rows,
+    pub rows: Text,
     pub accepted: bool,
     pub told: bool,
     pub shown: bool,
-    pub open: bool,
 }
 
+// The home display has stopped, and the play is over.
+#[derive(Clone, Copy, Debug, PartialEq, Eq)]
+pub struct Stopped;
+
 fn main(rt: HostRuntime) {
-    if has_argument(&rt, 2) {
-        print_usage(&rt)
-    } else if has_argument(&rt, 1) {
-        with_argument(&rt)
-    } else {
-        night(&rt, false)
+    match shows_frames(&rt) {
+        Some(shown) => {
+            let _ = night(&rt, shown);
+        }
+        None => print_line(
+            &rt,
+            b"usage: day [--frames]     --frames shows every frame in hexadecimal",
+        ),
     }
+}
+
+// Whether the program was started to show frames; none, where its arguments are others.
+fn shows_frames(env: &impl Env) -> Option<bool> {
+    if !has_argument(env, 1) {
+        return Some(false);
+    }
+    let mut word = [0u8; 9];
+    let n = env.arg(1, &mut word).ok()?;
+    (text::first(&word, n) == b"--frames".as_slice() && !has_argument(env, 2)).then_some(true)
 }
 
 // Whether the program was started with an argument at this place; its name is the one at 0.
 fn has_argument(env: &impl Env, i: usize) -> bool {
     let mut none = [0u8; 0];
-    match env.arg(i, &mut none) {
-        Err(FillError::NotPresent) => false,
-        _ => true,
-    }
-}
-
-fn with_argument(rt: &(impl Env + Print)) {
-    if is_frames(rt) {
-        return night(rt, true);
-    }
-    print_usage(rt)
-}
-
-fn is_frames(env: &impl Env) -> bool {
-    let mut word = [0u8; 9];
-    match env.arg(1, &mut word) {
-        Ok(k) => wire::same(text::first(&word, k), b"--frames"),
-        Err(_) => false,
-    }
-}
-
-fn print_usage(printer: &impl Print) {
-    print(
-        printer,
-        b"usage: day [--frames]     --frames shows every frame in hexadecimal\n",
-    )
+    !matches!(env.arg(i, &mut none), Err(FillError::NotPresent))
 }
 
 // The acts in turn. The stranger comes to the plug twice: as the home display has read, and as it has left.
-fn night(printer: &impl Print, shown: bool) {
-    let m = Meter::new([0; 16], [0; 8], [0; 8], [0; 8]);
-    let read = play::home_display(
-        printer,
-        play::hour_again(printer, play::owner(printer, begun(m, shown))),
-    );
-    let left = play::leaving(printer, read);
-    let mut before = read;
-    before.open = left.open;
+fn night(printer: &impl Print, shown: bool) -> Result<(), Stopped> {
+    let mut scene = Scene::begun(shown);
+    walk(printer, &mut scene, play::OWNER)?;
+    walk(printer, &mut scene, play::HOUR_AGAIN)?;
+    walk(printer, &mut scene, play::HOME_DISPLAY)?;
+    let mut before = scene;
+    walk(printer, &mut scene, play::LEAVING)?;
     before.told = false;
-    let a = play::stranger(printer, before);
-    let mut after = left;
-    after.told = a.told;
-    play::stranger_again(printer, after);
+    walk(printer, &mut before, play::STRANGER)?;
+    scene.told = before.told;
+    walk(printer, &mut scene, play::STRANGER_AGAIN)
 }
 
-fn begun(m: Meter, shown: bool) -> Scene {
-    Scene {
-        meter: m,
-        twin: m,
-        challenge: [0; 8],
-        answer: Answer {
-            number: 0,
-            room: [0; 779],
-            count: 0,
-        },
-        counter: 0,
-        rows: Rows {
-            text: [0; 765],
-            size: 0,
-        },
-        accepted: true,
-        told: false,
-        shown,
-        open: true,
-    }
-}
-
-// Line after line.
-pub fn walk(printer: &impl Print, mut s: Scene, text: &[u8]) -> Scene {
-    let mut at: usize = 0;
-    while at < text.len() {
-        s = line(printer, s, text::line_at(text, at));
-        at = text::after_line(text, at);
-    }
-    s
-}
-
-fn line(printer: &impl Print, s: Scene, l: &[u8]) -> Scene {
-    let mark = mark_of(s.open, l);
-    match mark {
-        0 => s,
-        b'?' => plug::asked(printer, s, l),
-        b'!' => plug::lent(s, l),
-        b'%' => display::heard(printer, s, l),
-        b'>' | b'*' | b':' | b'/' | b'$' => printed(printer, s, mark, l),
-        _ => plug::called(printer, s, l),
-    }
-}
-
-// The mark of a line, or 0 where the play is over.
-fn mark_of(open: bool, l: &[u8]) -> u8 {
-    if open { text::letter(l) } else { 0 }
-}
-
-// The lines that only print.
-fn printed(printer: &impl Print, s: Scene, mark: u8, l: &[u8]) -> Scene {
-    match mark {
-        b'>' => print_line(printer, after(l, 1)),
-        b'*' => {
-            let rows = s.rows;
-            display::print_rows(printer, rows)
+impl Scene {
+    fn begun(shown: bool) -> Scene {
+        let meter = Meter::new([0; 16], [0; 8], [0; 8], [0; 8]);
+        Scene {
+            meter,
+            twin: meter,
+            challenge: [0; 8],
+            answer: Answer::none(),
+            counter: 0,
+            rows: Text::none(),
+            accepted: true,
+            told: false,
+            shown,
         }
+    }
+}
+
+// Line after line, until the display stops.
+fn walk(printer: &impl Print, s: &mut Scene, act: &[u8]) -> Result<(), Stopped> {
+    for l in text::each_line(act) {
+        line(printer, s, l)?;
+    }
+    Ok(())
+}
+
+fn line(printer: &impl Print, s: &mut Scene, l: &[u8]) -> Result<(), Stopped> {
+    // A `match`, since each mark has other fields: a table of closures would be no plainer.
+    match text::letter(l) {
+        0 => {}
+        b'>' => print_line(printer, after(l, 1)),
+        b'?' => plug::asked(printer, s, l),
+        b'!' => s.challenge = text::array(l, 1),
+        b'%' => return display::heard(printer, s, l),
+        b'*' => table::print_rows(printer, s.rows.bytes()),
         b':' => print_words(printer, l, s.answer.number == text::byte(l, 3)),
         b'/' => print_words(printer, l, s.accepted),
-        _ => print_words(printer, l, !s.told),
+        b'$' => print_words(printer, l, !s.told),
+        _ => plug::called(printer, s, l),
     }
-    s
+    Ok(())
 }
 
 // The words of a line where something holds, and its other words where not; none, where it has none.
 pub fn print_words(printer: &impl Print, l: &[u8], holds: bool) {
     let words = field(l, if holds { 1 } else { 2 });
-    if 0 < words.len() {
+    if !words.is_empty() {
         print_line(printer, words);
     }
 }

@@ -1,12 +1,10 @@
 // The plug: every call goes to the meter and to its twin, a meter that is alike but for its values, which are all different.
 // Where both answer a frame with the same number and the same bytes, nothing tells these values from those. That this holds for
 // all values is not shown here but proved: demand 3, in the crates `protocol` and `p2`.
-ghost use Rattle.std.specs.Prelude.{◌<◌};
-
+use crate::held::Held;
 use crate::{Scene, play, print_line};
 use meter::Meter;
-use script_calls::Done;
-use text::{after, field, first, print};
+use text::{bytes_in, field, print};
 
 // By how much each value of the twin is greater.
 const GREATER: u32 = 1000000;
@@ -17,194 +15,129 @@ const ROOM: usize = 779;
 // The most bytes of a line's field.
 pub const LONGEST: usize = 128;
 
-// The answer to a frame: its number, and how many bytes of the room it has.
+// How many bytes of a frame stand on a line.
+const WIDTH: usize = 32;
+
+// What the number of a frame call means.
+const MEANINGS: [&str; 14] = [
+    "accepted",
+    "silence: too little room for a reply",
+    "silence: a key or the challenge is not whole",
+    "silence: the meter's state is not sound",
+    "silence: not a whole frame",
+    "silence: the frame itself is a rejection",
+    "silence: the seal is not right",
+    "silence: the counter's step is not 1 to 180",
+    "refused: the frame is too long",
+    "refused: the frame is bad",
+    "refused: there is no link",
+    "refused: the association is not accepted",
+    "refused: malformed, unknown, or not now",
+    "refused: the read or the action is denied",
+];
+
+// The answer to a frame: its number, and the bytes that are sent.
 #[derive(Clone, Copy)]
 pub struct Answer {
     pub number: u8,
-    pub room: [u8; ROOM],
-    pub count: usize,
+    pub sent: Held<ROOM>,
 }
 
-// The meter after a frame, and its answer.
-#[derive(Clone, Copy)]
-struct Reply {
-    meter: Meter,
-    answer: Answer,
-}
-
-// A call of the owner.
-pub fn called(printer: &impl Print, mut s: Scene, l: &[u8]) -> Scene {
-    let a = script_calls::owned(s.meter, l, 0);
-    let b = script_calls::owned(s.twin, l, GREATER);
-    let m = a.meter;
-    s.meter = m;
-    let t = b.meter;
-    s.twin = t;
-    s.accepted = is_accepted(printer, s.accepted, b.column, a.refusal | b.refusal, l);
-    s
-}
-
-// Whether all calls were accepted, up to one with this refusal. A call that is refused, or cannot be read, is told at once.
-fn is_accepted(printer: &impl Print, before: bool, column: usize, refusal: u8, l: &[u8]) -> bool {
-    if column == 0 && refusal == 0 {
-        return before;
+impl Answer {
+    pub fn none() -> Answer {
+        Answer {
+            number: 0,
+            sent: Held::none(),
+        }
     }
-    print(printer, b"   A call of the owner was refused: ");
-    print_line(printer, l);
-    false
+
+    fn is_alike(&self, other: &Answer) -> bool {
+        self.number == other.number && self.sent.bytes() == other.sent.bytes()
+    }
 }
 
-// Another challenge is lent.
-pub fn lent(mut s: Scene, l: &[u8]) -> Scene {
-    let challenge = text::bytes_8(l, 1);
-    s.challenge = challenge;
-    s
+// A call of the owner, made on both. One that is refused, or cannot be read, is told at once.
+pub fn called(printer: &impl Print, s: &mut Scene, l: &[u8]) {
+    let is_first = owned(&mut s.meter, l, 0);
+    let is_second = owned(&mut s.twin, l, GREATER);
+    if !(is_first && is_second) {
+        print(printer, b"   A call of the owner was refused: ");
+        print_line(printer, l);
+        s.accepted = false;
+    }
 }
 
-// A frame is put to both.
-pub fn asked(printer: &impl Print, s: Scene, l: &[u8]) -> Scene {
-    let mut frame = [0u8; LONGEST];
-    let n = text::bytes(l, 2, &mut frame);
-    put_to_both(printer, s, l, part(&frame, n))
+// A call of the owner on one of the two, and whether it was accepted.
+fn owned(meter: &mut Meter, l: &[u8], extra: u32) -> bool {
+    let Ok(done) = script_calls::owned(*meter, l, extra) else {
+        return false;
+    };
+    *meter = done.meter;
+    done.refusal == 0
 }
 
-// A line tells what came of it.
-fn put_to_both(printer: &impl Print, mut s: Scene, l: &[u8], frame: &[u8]) -> Scene {
+// A frame is put to both, and a line tells what came of it.
+pub fn asked(printer: &impl Print, s: &mut Scene, l: &[u8]) {
+    let mut room = [0u8; LONGEST];
+    let frame = bytes_in(l, 2, &mut room);
     let challenge = s.challenge;
-    let a = put(s.meter, challenge, frame);
-    let b = put(s.twin, challenge, frame);
-    let m = a.meter;
-    s.meter = m;
-    let t = b.meter;
-    s.twin = t;
-    let answer = a.answer;
+    let answer = put(&mut s.meter, challenge, frame);
+    let other = put(&mut s.twin, challenge, frame);
+    let alike = answer.is_alike(&other);
     s.answer = answer;
-    s.told = s.told | tells(printer, l, answer, b.answer);
-    show(printer, s.shown, frame, answer);
-    s
+    s.told = s.told || !alike;
+    print_answer(printer, field(l, 1), answer.number, alike);
+    if s.shown {
+        print_frames(printer, frame, answer.sent.bytes());
+    }
 }
 
 // The frame call, with what the owner lends.
-fn put(meter: Meter, challenge: [u8; 8], frame: &[u8]) -> Reply {
+fn put(meter: &mut Meter, challenge: [u8; 8], frame: &[u8]) -> Answer {
     let mut room = [0u8; ROOM];
-    let d = received(meter, challenge, frame, &mut room);
-    as_reply(d, room)
-}
-
-fn received(meter: Meter, challenge: [u8; 8], frame: &[u8], room: &mut [u8; ROOM]) -> Done {
-    script_calls::receive(meter, frame, &play::GUK, &play::AK, &challenge, ROOM, room)
-}
-
-fn as_reply(d: Done, room: [u8; ROOM]) -> Reply {
-    let m = d.meter;
-    Reply {
-        meter: m,
-        answer: Answer {
-            number: d.refusal,
-            room,
-            count: d.count,
-        },
-    }
-}
-
-// Whether the answers of both tell their values apart: a line says so.
-fn tells(printer: &impl Print, l: &[u8], a: Answer, b: Answer) -> bool {
-    let alike = is_alike(a, b);
-    print_answer(printer, l, a.number, alike);
-    !alike
-}
-
-fn is_alike(a: Answer, b: Answer) -> bool {
-    let x = a.room;
-    let y = b.room;
-    (a.number == b.number) & wire::same(sent(&x, a.count), sent(&y, b.count))
-}
-
-// The bytes that a field has.
-pub fn part(room: &[u8; LONGEST], n: usize) -> &[u8] {
-    first(room, n)
-}
-
-// The bytes that an answer has.
-pub fn sent(room: &[u8; ROOM], n: usize) -> &[u8] {
-    first(room, n)
-}
-
-// What was asked, what the number of a frame call means, and whether the answer tells of values.
-fn print_answer(printer: &impl Print, l: &[u8], number: u8, alike: bool) {
-    print(printer, field(l, 1));
-    print_meaning(
-        printer,
-        b"something\n|nothing\n|\
-        \x20 0  accepted                                      |\
-        \x20 1  silence: too little room for a reply          |\
-        \x20 2  silence: a key or the challenge is not whole  |\
-        \x20 3  silence: the meter's state is not sound       |\
-        \x20 4  silence: not a whole frame                    |\
-        \x20 5  silence: the frame itself is a rejection      |\
-        \x20 6  silence: the seal is not right                |\
-        \x20 7  silence: the counter's step is not 1 to 180   |\
-        \x20 8  refused: the frame is too long                |\
-        \x20 9  refused: the frame is bad                     |\
-        \x2010  refused: there is no link                     |\
-        \x2011  refused: the association is not accepted      |\
-        \x2012  refused: malformed, unknown, or not now       |\
-        \x2013  refused: the read or the action is denied     ",
-        number,
-        alike,
+    let done = script_calls::receive(
+        *meter,
+        frame,
+        &play::GUK,
+        &play::AK,
+        &challenge,
+        ROOM,
+        &mut room,
     );
-}
-
-fn print_meaning(printer: &impl Print, words: &[u8], number: u8, alike: bool) {
-    print(printer, field(words, wide(number) + 2));
-    print(printer, field(words, if alike { 1 } else { 0 }));
-}
-
-// A frame and its answer, where they are to be shown.
-fn show(printer: &impl Print, shown: bool, frame: &[u8], a: Answer) {
-    if shown {
-        print_frames(printer, frame, a);
+    *meter = done.meter;
+    Answer {
+        number: done.refusal,
+        sent: Held::new(room, done.count),
     }
 }
 
-fn print_frames(printer: &impl Print, frame: &[u8], a: Answer) {
-    let room = a.room;
+// What was asked, what the number of a frame call means, and whether the answer tells of values. What cannot be written is lost.
+fn print_answer(printer: &impl Print, asked: &[u8], number: u8, alike: bool) {
+    print(printer, asked);
+    if let Some(meaning) = MEANINGS.get(usize::from(number)) {
+        let _ = print!(printer; "{number:>3}  {meaning:<46}");
+    }
+    print(printer, if alike { b"nothing\n" } else { b"something\n" });
+}
+
+// A frame and its answer.
+fn print_frames(printer: &impl Print, frame: &[u8], sent: &[u8]) {
     print(printer, b"     asked   ");
     print_bytes(printer, frame);
     print(printer, b"\n     answer  ");
-    print_sent(printer, sent(&room, a.count));
+    if sent.is_empty() {
+        print(printer, b" none");
+    }
+    print_bytes(printer, sent);
     print(printer, b"\n");
 }
 
-fn print_sent(printer: &impl Print, s: &[u8]) {
-    if s.len() == 0 {
-        print(printer, b" none");
-    }
-    print_bytes(printer, s);
-}
-
-// Bytes, 32 on a line.
+// Bytes, 32 on a line, each after a space.
 fn print_bytes(printer: &impl Print, s: &[u8]) {
-    let mut i: usize = 0;
-    while i < s.len() {
-        print_gap(printer, i);
-        text::print_hex(printer, first(after(s, i), 1));
-        i += 1;
+    for (i, byte) in s.iter().enumerate() {
+        if i > 0 && i % WIDTH == 0 {
+            print(printer, b"\n             ");
+        }
+        let _ = print!(printer; " {byte:02X}");
     }
-}
-
-// What stands before a byte: a space, and a new line before it where one is full.
-fn print_gap(printer: &impl Print, i: usize) {
-    print(printer, after(b"\n              ", gap(i)));
-}
-
-fn gap(i: usize) -> usize {
-    if i % 32 == 0 && 0 < i { 0 } else { 14 }
-}
-
-// A byte as a number.
-pub fn wide(b: u8) -> usize
-    ensures { result < 256 }
-{
-    b as usize
 }

@@ -8,7 +8,7 @@ use Rattle.meter.specs.declared.Meter.{Meter}
 use Rattle.meter.specs.View.{view}
 use Rattle.ending.specs.declared.Received.{Received}
 use Rattle.call_tests.specs.Tests.{found}
-use Rattle.call_tests.specs.Lines.{letters, line_found, name_found, spelled}
+use Rattle.call_tests.specs.Lines.{line_found, name_found, spelled}
 use Rattle.p2.specs.Promise.{Answered}
 use Rattle.diagnosis.specs.Promise.{explained}
 
@@ -22,4 +22,4 @@ SameNumber =
 abbrev pub LineTold : Type 0
 LineTold =
     (m : Model) (a : Lent)
-    → spelled (explained m a).refusal (letters (name_found (explained m a).finding)) (explained m a).place ≡ line_found (found m a) a.received
+    → spelled (explained m a).refusal (name_found (explained m a).finding) (explained m a).place ≡ line_found (found m a) a.received

@@ -5,12 +5,12 @@
 
 mod apdus;
 mod envelopes;
+mod ready;
 mod requests;
 mod state;
 mod told;
 
-ghost use Rattle.std.specs.Prelude.{◌≡◌, true};
-ghost use Rattle.model.specs.Soundness.{sound};
+ghost use Rattle.std.specs.Prelude.{◌≡◌};
 ghost use Rattle.hdlc.specs.Reading.{read_frame};
 ghost use Rattle.line.specs.View.{line_of};
 ghost use Rattle.body.specs.View.{body_of};
@@ -18,31 +18,25 @@ ghost use Rattle.meter.specs.View.{view};
 ghost use Rattle.call_tests.specs.Tests.{found};
 ghost use Rattle.call_tests.specs.Road.{heard_finds, link_down_finds, link_up_finds};
 ghost use Rattle.p2.specs.Promise.{lent};
-ghost use Rattle.diagnosis.specs.Promise.{explained, is_failing};
+ghost use Rattle.diagnosis.specs.Promise.{explained};
 
 use call_tests::{Finding, LineTest};
-use hdlc::{Frame, Place};
+use hdlc::Frame;
 use line::LineState;
 use meter::Meter;
 use model::Client;
-use protocol::Secrets;
+use ready::Ready;
 
 // What is told of a call: the number that it answers, the test that it fails first or none, and where the frame fails it.
 #[derive(Clone, Copy)]
 pub struct Explained {
     pub refusal: u8,
     pub finding: Finding,
-    pub place: Place,
-}
-
-// What an envelope comes to: it fails a test, or it opens with a counter and so many bytes of text.
-#[derive(Clone, Copy)]
-enum Inside {
-    Refused(LineTest),
-    Opened { counter: u32, size: usize },
+    pub place: Option<usize>,
 }
 
 // Explains the frame call on this meter with all that it is lent; of the reply room that is its length.
+// What is lent stays a list of parameters: it is that of `p2::receive`, whose call this explains.
 pub fn explain(
     meter: Meter,
     frame: &[u8],
@@ -54,12 +48,10 @@ pub fn explain(
     ensures { result ≡ explained (view meter) (lent room guk.now ak.now challenge.now frame.now) }
 {
     let finding = find(meter, frame, guk, ak, challenge, room);
-    let refusal = told::number_found(finding);
-    let place = told::place_found(finding, frame);
     Explained {
-        refusal,
+        refusal: told::number_found(finding),
         finding,
-        place,
+        place: told::place_found(finding, frame),
     }
 }
 
@@ -67,71 +59,55 @@ pub fn explain(
 fn find(meter: Meter, frame: &[u8], guk: &[u8], ak: &[u8], challenge: &[u8], room: usize) -> Finding
     ensures { result ≡ found (view meter) (lent room guk.now ak.now challenge.now frame.now) }
 {
-    let of_lent = state::find_lent(room, guk, ak, challenge);
-    if fails(of_lent) {
-        return of_lent;
-    }
-    let of_state = state::find_unsound(meter);
-    if fails(of_state) {
-        return of_state;
-    }
+    state::find_lent(room, guk, ak, challenge)?;
+    state::find_unsound(meter)?;
     let secrets = association::secrets_of(guk, ak, challenge);
-    hear(meter, secrets, frame)
-}
-
-fn fails(finding: Finding) -> bool
-    ensures { result ≡ is_failing finding }
-{
-    match finding {
-        Finding::Fails(_) => true,
-        Finding::Passes => false,
-    }
+    hear(Ready { meter, secrets }, frame)
 }
 
 // A frame, on a sound meter.
-fn hear(meter: Meter, secrets: Secrets, frame: &[u8]) -> Finding
-    requires { sound (view meter) ≡ true }
-    ensures { result ≡ heard_finds (line_of meter.line) (body_of meter.body) secrets frame.now (read_frame frame.now) }
+fn hear(ready: Ready, frame: &[u8]) -> Finding
+    ensures { result ≡ heard_finds (line_of ready.meter.line) (body_of ready.meter.body) ready.secrets frame.now (read_frame frame.now) }
 {
-    let line = meter.line;
     let read = hdlc::read_frame(frame);
     match read {
-        Frame::Unanswered(test) => told::of_frame(test),
-        Frame::Rejected(test, _) => told::of_frame(test),
+        Frame::Unanswered(test) | Frame::Rejected(test, _) => Err(test.into()),
         Frame::LinkUp {
             client,
-            head: _,
             information,
-        } => link_up(line, client, information),
-        Frame::LinkDown { client, head: _ } => link_down(line, client),
+            ..
+        } => link_up(ready.meter.line, client, information),
+        Frame::LinkDown { client, .. } => link_down(ready.meter.line, client),
         Frame::Apdu {
             client,
-            head: _,
             start,
             end,
-        } => apdus::carry(meter, secrets, client, &frame[start..end]),
+            ..
+        } => apdus::carry(ready, client, &frame[start..end]),
     }
 }
 
 // A link that is to come up.
+#[tactic(auto, unfolding(call_tests::specs::Road::link_up_finds))]
 fn link_up(line: LineState, client: Client, information: bool) -> Finding
     ensures { result ≡ link_up_finds (line_of line) client information }
 {
     if information {
-        return told::of_line(LineTest::LinkUpWithInformation);
+        return Err(LineTest::LinkUpWithInformation.into());
     }
     if association::is_held_by_p5(line, client) {
-        return told::of_line(LineTest::P5HoldsV);
+        return Err(LineTest::P5HoldsV.into());
     }
-    Finding::Passes
+    Ok(())
 }
 
 // A link that is to go down.
+#[tactic(auto, unfolding(call_tests::specs::Road::link_down_finds))]
 fn link_down(line: LineState, client: Client) -> Finding
     ensures { result ≡ link_down_finds (line_of line) client }
 {
     if !line::is_up(line, client) {
-        return told::of_line(LineTest::LinkDownWhileDown);
+        return Err(LineTest::LinkDownWhileDown.into());
     }
-    Finding::Passes
+    Ok(())
 }

@@ -1,3 +1,1 @@
 pub mod DecimalLaws
-pub mod WordLaws
-pub mod RowLaws

@@ -12,9 +12,9 @@ use Rattle.model.specs.declared.Counters.{Counters}
 use Rattle.model.specs.State.{none, Line}
 use Rattle.counters.specs.Window.{in_window}
 use Rattle.envelope.specs.declared.Opening.{Opening}
-use Rattle.envelope.specs.declared.Opening.TheVariants.{Fails, Opens}
-use Rattle.envelope.specs.declared.Admission.{Admission}
-use Rattle.envelope.specs.declared.Admission.TheVariants.{Unopened, OutsideWindow, Admitted}
+use Rattle.envelope.specs.declared.Unadmitted.{Unadmitted}
+use Rattle.envelope.specs.declared.Unadmitted.TheVariants.{Unopened, OutsideWindow}
+use Rattle.std.specs.Prelude.{Option, Some, None, Result, Ok, Err}
 use Rattle.material.specs.Material.{Keys}
 use Rattle.envelope.specs.Opening.{Opened, fails, opens, opened, OpenedInto, AdmittedInto}
 use Rattle.envelope.proofs.AdmitLaws.{opened_not, opened_text, unopened_of, outside_of, admitted_of}
@@ -33,29 +33,29 @@ from_start n s = let z : n ≡ n - 0 = omega arith in ap (λ (k : ℕ). take k s
 pub window_of : (c : CipherClient) (l : Line) {pair : Counters} → pair ≡ counters c l → (counter : ℕ) {b : Bool} → in_window pair.accepted counter ≡ b → in_window (counters c l).accepted counter ≡ b
 window_of c l ep counter e = ap (λ (x : Counters). in_window x.accepted counter) (sym ep) ∙ e
 
-pub admitted_size : {accepted : ℕ} {o : Opened} {before after : List ℕ} {r : Admission} → AdmittedInto accepted o before after r → {counter size : ℕ} → r ≡ Admitted counter size → size ≤ length after
+pub admitted_size : {accepted : ℕ} {o : Opened} {before after : List ℕ} {r : Result Opening Unadmitted} → AdmittedInto accepted o before after r → {x : Opening} → r ≡ Ok x → x.size ≤ length after
 admitted_size g q = (admitted_of _ g q).0.1
 
 module _ {k n : Keys} {t u : List ℕ} (tag : ℕ) (s : List ℕ) (ek : k ≡ n) (et : t ≡ u) where
   pub same_opening : opened n u tag s ≡ opened k t tag s
   same_opening = ap₂ (λ (x : Keys) (y : List ℕ). opened x y tag s) (sym ek) (sym et)
 
-  module _ {before after : List ℕ} {r : Opening} (g : OpenedInto (opened k t tag s) before after r) where
-    pub envelope_fails : r ≡ Fails → opened n u tag s ≡ fails
+  module _ {before after : List ℕ} {r : Option Opening} (g : OpenedInto (opened k t tag s) before after r) where
+    pub envelope_fails : r ≡ None → opened n u tag s ≡ fails
     envelope_fails q = same_opening ∙ (opened_not g q).0
 
-    pub envelope_opens : {counter size : ℕ} → r ≡ Opens counter size → opened n u tag s ≡ opens counter (part 0 size after)
-    envelope_opens {counter} {size} q = same_opening ∙ (opened_text g q).0 ∙ ap (opens counter) (from_start size after)
+    pub envelope_opens : {x : Opening} → r ≡ Some x → opened n u tag s ≡ opens x.counter (part 0 x.size after)
+    envelope_opens {x} q = same_opening ∙ (opened_text g q).0 ∙ ap (opens x.counter) (from_start x.size after)
 
-  module _ (c : CipherClient) (l : Line) {pair : Counters} (ep : pair ≡ counters c l) (inside : ℕ → List ℕ → Ruling) {before after : List ℕ} {r : Admission} (g : AdmittedInto pair.accepted (opened k t tag s) before after r) where
-    pub admits_unopened : r ≡ Unopened → admitted l c (opened n u tag s) inside ≡ says envelope_unopened nothing l
+  module _ (c : CipherClient) (l : Line) {pair : Counters} (ep : pair ≡ counters c l) (inside : ℕ → List ℕ → Ruling) {before after : List ℕ} {r : Result Opening Unadmitted} (g : AdmittedInto pair.accepted (opened k t tag s) before after r) where
+    pub admits_unopened : r ≡ Err Unopened → admitted l c (opened n u tag s) inside ≡ says envelope_unopened nothing l
     admits_unopened q = rw (same_opening ∙ unopened_of _ g q) refl
 
-    pub admits_outside : r ≡ OutsideWindow → admitted l c (opened n u tag s) inside ≡ says outside_window nothing (associates (Ciphering c) none l)
+    pub admits_outside : r ≡ Err OutsideWindow → admitted l c (opened n u tag s) inside ≡ says outside_window nothing (associates (Ciphering c) none l)
     admits_outside q = let w = outside_of _ g q in rw (same_opening ∙ w.opening, window_of c l ep w.counter w.window) refl
 
-    pub admits_inside : {counter size : ℕ} → r ≡ Admitted counter size → admitted l c (opened n u tag s) inside ≡ inside counter (part 0 size after)
-    admits_inside {counter} {size} q = let w = admitted_of _ g q in rw (same_opening ∙ w.0.0, window_of c l ep counter w.1) (ap (inside counter) (from_start size after))
+    pub admits_inside : {x : Opening} → r ≡ Ok x → admitted l c (opened n u tag s) inside ≡ inside x.counter (part 0 x.size after)
+    admits_inside {x} q = let w = admitted_of _ g q in rw (same_opening ∙ w.0.0, window_of c l ep x.counter w.1) (ap (inside x.counter) (from_start x.size after))
 
 -- a proof that was tested under the lent keys, made ready
 pub proves_under : (c : CipherClient) (l : Line) (a : Secrets) (counter : ℕ) (text : List ℕ) (q : Asked) {k : Keys} {b : Bool} → k ≡ lent_keys a

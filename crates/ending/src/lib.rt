@@ -16,10 +16,12 @@ use body::Change;
 use cosem::Exception;
 use hdlc::Head;
 use line::LineState;
+use material::ReadyKeys;
 use meter::Meter;
 use model::{CipherClient, Client};
 
-// What a frame call hands back: the number of its refusal, or 0, how many bytes of the reply room go out, and the meter.
+// What a frame call hands back: the number of its refusal, or 0, how many bytes of the reply room go out, and the meter. The C
+// interface has refusals as numbers, and each stands in one function: names for them would be no plainer.
 #[derive(Clone, Copy)]
 pub struct Received {
     pub refusal: u8,
@@ -42,6 +44,15 @@ pub struct Told {
     pub refusal: u8,
     pub count: usize,
     pub line: LineState,
+}
+
+// An envelope that was opened: by which client's keys, with which counter, and the head of the frame that it came in.
+#[derive(Clone, Copy)]
+pub struct Opened {
+    pub client: CipherClient,
+    pub keys: ReadyKeys,
+    pub head: Head,
+    pub counter: u32,
 }
 
 // Nothing goes out, and the line is as it was.
@@ -79,19 +90,22 @@ pub fn misread(
     requires { HasRoom out.old }
     ensures { Tells (refused_malformed head (accepted client counter (line_of line))) line out.old out.new result }
 {
-    let next = accept_counter(line, client, counter);
-    except(next, head, Exception::ServiceUnknown, out)
+    except(
+        accept_counter(line, client, counter),
+        head,
+        Exception::ServiceUnknown,
+        out,
+    )
 }
 
-// What the line answered by itself: the body is as it was.
+// What the line answered by itself: the body is as it was. docs/CONTRACTS.md names it, so it is no `From`.
 pub fn alone(answer: Told) -> Heard
     ensures { result ≡ heard_of answer.refusal answer.count answer.line unchanging }
 {
-    let line = answer.line;
     Heard {
         refusal: answer.refusal,
         count: answer.count,
-        line,
+        line: answer.line,
         change: body::unchanged(),
     }
 }
@@ -100,19 +114,13 @@ pub fn alone(answer: Told) -> Heard
 pub fn drop_association(line: LineState, client: CipherClient) -> Told
     ensures { (l : List ℕ) → Tells (says outside_window nothing (associates (Ciphering client) none (line_of line))) line l l result }
 {
-    let next = association::ended(line, Client::Ciphering(client));
-    Told {
-        refusal: 7,
-        count: 0,
-        line: next,
-    }
+    kept(7, association::ended(line, Client::Ciphering(client)))
 }
 
 // The line with a counter of the client's as the last accepted.
 pub fn accept_counter(line: LineState, client: CipherClient, counter: u32) -> LineState
     ensures { line_of result ≡ accepted client counter (line_of line) }
 {
-    let held = line::counters_of(line, client);
-    let pair = counters::accept(held, counter);
-    association::with_counters(line, client, pair)
+    let accepted = counters::accept(line::counters_of(line, client), counter);
+    association::with_counters(line, client, accepted)
 }

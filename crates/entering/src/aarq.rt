@@ -11,11 +11,10 @@ ghost use Rattle.replies.specs.Room.{HasRoom};
 ghost use Rattle.ending.specs.Inner.{Tells, TellsWith};
 
 use acse::{Aarq, InitiateRequest};
-use ending::Told;
-use envelope::{LONGEST_APDU, Opening};
+use ending::{Opened, Told};
+use envelope::LONGEST_APDU;
 use hdlc::Head;
 use line::LineState;
-use material::ReadyKeys;
 use model::{CipherClient, Client};
 use protocol::Secrets;
 
@@ -32,20 +31,21 @@ pub fn associate(
     ensures { Tells (associating (line_of line) secrets client head apdu.now (read_aarq apdu.now client (peer client (line_of line)).title)) line out.old out.new result }
 {
     let title = line::title_of(line, client);
-    let aarq = acse::read_aarq(apdu, client, &title);
-    match aarq {
-        Aarq::Plain { services } => {
-            let proposed = wire::three_at(apdu, services);
+    match acse::read_aarq(apdu, client, &title) {
+        Some(Aarq::Plain { services }) => {
+            let proposed = wire::array_at(apdu, services);
             accept_from(line, client, head, proposed, out)
         }
-        Aarq::Ciphered {
-            challenge,
-            envelope,
-        } => {
-            let theirs = wire::eight_at(apdu, challenge);
+        Some(
+            Aarq::Ciphered {
+                challenge,
+                envelope,
+            },
+        ) => {
+            let theirs = wire::array_at(apdu, challenge);
             open_from(line, secrets, client, head, theirs, &apdu[envelope..], out)
         }
-        Aarq::Departs => reject_aarq(line, client, head, out),
+        None => reject_aarq(line, client, head, out),
     }
 }
 
@@ -103,14 +103,12 @@ fn accept_plain(line: LineState, head: Head, proposed: [u8; 3], out: &mut [u8]) 
     requires { HasRoom out.old }
     ensures { Tells (accepted_plain (line_of line) head proposed) line out.old out.new result }
 {
-    let title = line.title;
     let agreed = acse::agreed(Client::Verification, proposed);
-    let next = association::associated_plain(line, agreed);
-    let count = replies::send_accepted_plain(out, head, Client::Verification, title, agreed);
+    let count = replies::send_accepted_plain(out, head, Client::Verification, line.title, agreed);
     Told {
         refusal: 0,
         count,
-        line: next,
+        line: association::associated_plain(line, agreed),
     }
 }
 
@@ -130,20 +128,21 @@ fn open_request(
     let keys = association::lent_keys(secrets);
     let title = line::title_of(line, Client::Ciphering(client));
     let mut text = [0u8; LONGEST_APDU];
-    let Opening::Opens { counter, size } = envelope::open_envelope(
-        keys, title, 0x21, envelope, &mut text,
-    ) else {
+    let Some(opening) = envelope::open_envelope(keys, title, 0x21, envelope, &mut text) else {
         return reject_aarq(line, Client::Ciphering(client), head, out);
+    };
+    let opened = Opened {
+        client,
+        keys,
+        head,
+        counter: opening.counter,
     };
     initiate(
         line,
         secrets,
-        client,
-        keys,
-        head,
+        opened,
         challenge,
-        &text[0..size],
-        counter,
+        &text[0..opening.size],
         out,
     )
 }
@@ -152,27 +151,21 @@ fn open_request(
 fn initiate(
     line: LineState,
     secrets: Secrets,
-    client: CipherClient,
-    keys: ReadyKeys,
-    head: Head,
+    opened: Opened,
     challenge: [u8; 8],
     text: &[u8],
-    counter: u32,
     out: &mut [u8],
 ) -> Told
     requires { HasRoom out.old }
-    ensures { TellsWith keys secrets (initiated (line_of line) secrets client head challenge text.now counter (read_request text.now)) line out.old out.new result }
+    ensures { TellsWith opened.keys secrets (initiated (line_of line) secrets opened.client opened.head challenge text.now opened.counter (read_request text.now)) line out.old out.new result }
 {
-    let request = acse::read_request(text);
-    match request {
-        InitiateRequest::Accepted { key, services } => {
-            let dedicated = wire::sixteen_at(text, key);
-            let proposed = wire::three_at(text, services);
-            accept_ciphered(
-                line, secrets, client, keys, head, challenge, dedicated, proposed, counter, out,
-            )
+    match acse::read_request(text) {
+        Some(InitiateRequest { key, services }) => {
+            let dedicated = wire::array_at(text, key);
+            let proposed = wire::array_at(text, services);
+            accept_ciphered(line, secrets, opened, challenge, dedicated, proposed, out)
         }
-        InitiateRequest::Departs => reject_aarq(line, Client::Ciphering(client), head, out),
+        None => { reject_aarq(line, Client::Ciphering(opened.client), opened.head, out) }
     }
 }
 
@@ -180,32 +173,27 @@ fn initiate(
 fn accept_ciphered(
     line: LineState,
     secrets: Secrets,
-    client: CipherClient,
-    keys: ReadyKeys,
-    head: Head,
+    opened: Opened,
     challenge: [u8; 8],
     key: [u8; 16],
     proposed: [u8; 3],
-    counter: u32,
     out: &mut [u8],
 ) -> Told
     requires { HasRoom out.old }
-    ensures { TellsWith keys secrets (accepted_ciphered (line_of line) secrets client head challenge key proposed counter) line out.old out.new result }
+    ensures { TellsWith opened.keys secrets (accepted_ciphered (line_of line) secrets opened.client opened.head challenge key proposed opened.counter) line out.old out.new result }
 {
-    let title = line.title;
-    let held = line::counters_of(line, client);
-    let pair = counters::accept(held, counter);
-    let next = counters::take(pair);
+    let client = opened.client;
     let asking = Client::Ciphering(client);
     let agreed = acse::agreed(asking, proposed);
+    let held = line::counters_of(line, client);
+    let next = counters::take(counters::accept(held, opened.counter));
     let ours = secrets.challenge;
-    let after = association::pending(line, client, agreed, key, challenge, ours, next.counters);
     let count = replies::send_accepted_ciphered(
         out,
-        head,
+        opened.head,
         asking,
-        keys,
-        title,
+        opened.keys,
+        line.title,
         ours,
         agreed,
         next.number,
@@ -213,6 +201,6 @@ fn accept_ciphered(
     Told {
         refusal: 0,
         count,
-        line: after,
+        line: association::pending(line, client, agreed, key, challenge, ours, next.counters),
     }
 }

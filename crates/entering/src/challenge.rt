@@ -7,11 +7,10 @@ ghost use Rattle.ending.specs.Inner.{Tells, TellsUnder};
 
 use association::{is_challenge, proves_itself};
 use cosem::{Asked, Exception, Reading};
-use ending::{Told, accept_counter, drop_association, except, kept, misread};
-use envelope::{Admission, LONGEST_APDU};
+use ending::{Opened, Told, accept_counter, drop_association, except, kept, misread};
+use envelope::{LONGEST_APDU, Opening, Unadmitted};
 use hdlc::Head;
 use line::LineState;
-use material::ReadyKeys;
 use model::{CipherClient, Client};
 use protocol::Secrets;
 
@@ -49,91 +48,71 @@ fn hear_challenge(
     let keys = association::lent_keys(secrets);
     let title = line::title_of(line, Client::Ciphering(client));
     let mut text = [0u8; LONGEST_APDU];
-    let admission = envelope::admit_envelope(keys, title, 0xCB, pair, apdu, &mut text);
-    match admission {
-        Admission::Unopened => kept(6, line),
-        Admission::OutsideWindow => drop_association(line, client),
-        Admission::Admitted { counter, size } => {
-            answer_challenge(line, client, keys, head, counter, &text[0..size], out)
+    match envelope::admit_envelope(keys, title, 0xCB, pair, apdu, &mut text) {
+        Err(Unadmitted::Unopened) => kept(6, line),
+        Err(Unadmitted::OutsideWindow) => drop_association(line, client),
+        Ok(Opening { counter, size }) => {
+            let opened = Opened {
+                client,
+                keys,
+                head,
+                counter,
+            };
+            answer_challenge(line, opened, &text[0..size], out)
         }
     }
 }
 
 // An opened APDU while the client is pending.
-fn answer_challenge(
-    line: LineState,
-    client: CipherClient,
-    keys: ReadyKeys,
-    head: Head,
-    counter: u32,
-    text: &[u8],
-    out: &mut [u8],
-) -> Told
+fn answer_challenge(line: LineState, opened: Opened, text: &[u8], out: &mut [u8]) -> Told
     requires { HasRoom out.old }
-    ensures { TellsUnder keys (λ a. answered_challenge (line_of line) a client head counter text.now (read_action text.now)) line out.old out.new result }
+    ensures { TellsUnder opened.keys (λ a. answered_challenge (line_of line) a opened.client opened.head opened.counter text.now (read_action text.now)) line out.old out.new result }
 {
-    let reading = cosem::read_action(text);
-    match reading {
-        Reading::Asks(request) => judge(line, client, keys, head, counter, text, request, out),
-        Reading::GoesOn {
-            invoke: _,
-            number: _,
-        } => misread(line, client, head, counter, out),
-        Reading::Malformed => misread(line, client, head, counter, out),
+    match cosem::read_action(text) {
+        Some(Reading::Asks(request)) => judge(line, opened, text, request, out),
+        Some(Reading::GoesOn { .. }) => {
+            misread(line, opened.client, opened.head, opened.counter, out)
+        }
+        None => misread(line, opened.client, opened.head, opened.counter, out),
     }
 }
 
 // An ACTION while the client is pending.
-fn judge(
-    line: LineState,
-    client: CipherClient,
-    keys: ReadyKeys,
-    head: Head,
-    counter: u32,
-    text: &[u8],
-    request: Asked,
-    out: &mut [u8],
-) -> Told
+fn judge(line: LineState, opened: Opened, text: &[u8], request: Asked, out: &mut [u8]) -> Told
     requires { HasRoom out.old }
-    ensures { TellsUnder keys (λ a. challenged (line_of line) a client head counter text.now request) line out.old out.new result }
+    ensures { TellsUnder opened.keys (λ a. challenged (line_of line) a opened.client opened.head opened.counter text.now request) line out.old out.new result }
 {
+    let Opened {
+        client,
+        keys,
+        head,
+        counter,
+    } = opened;
     if !is_challenge(client, text, request) {
         let next = accept_counter(line, client, counter);
         return except(next, head, Exception::ServiceNotAllowed, out);
     }
-    let invoke = request.invoke;
     if proves_itself(line, client, keys, counter, text, request) {
-        return prove(line, client, keys, head, invoke, counter, out);
+        prove(line, opened, request.invoke, out)
+    } else {
+        disprove(line, opened, request.invoke, out)
     }
-    disprove(line, client, keys, head, invoke, counter, out)
 }
 
 // A right proof: the meter's goes out, and the client is associated. The proof takes a counter before its envelope.
-fn prove(
-    line: LineState,
-    client: CipherClient,
-    keys: ReadyKeys,
-    head: Head,
-    invoke: u8,
-    counter: u32,
-    out: &mut [u8],
-) -> Told
+fn prove(line: LineState, opened: Opened, invoke: u8, out: &mut [u8]) -> Told
     requires { HasRoom out.old }
-    ensures { TellsUnder keys (λ a. proved (line_of line) a client head invoke counter) line out.old out.new result }
+    ensures { TellsUnder opened.keys (λ a. proved (line_of line) a opened.client opened.head invoke opened.counter) line out.old out.new result }
 {
-    let title = line.title;
-    let held = line::counters_of(line, client);
-    let pair = counters::accept(held, counter);
-    let first = counters::take(pair);
+    let held = line::counters_of(line, opened.client);
+    let first = counters::take(counters::accept(held, opened.counter));
     let second = counters::take(first.counters);
-    let challenge = line::client_challenge(line, client);
-    let next = association::associated_ciphered(line, client, second.counters);
     let count = replies::send_proof(
         out,
-        head,
-        keys,
-        title,
-        challenge,
+        opened.head,
+        opened.keys,
+        line.title,
+        line::client_challenge(line, opened.client),
         invoke,
         first.number,
         second.number,
@@ -141,34 +120,30 @@ fn prove(
     Told {
         refusal: 0,
         count,
-        line: next,
+        line: association::associated_ciphered(line, opened.client, second.counters),
     }
 }
 
 // A wrong proof: code 250 goes out, and the client's association ends.
-fn disprove(
-    line: LineState,
-    client: CipherClient,
-    keys: ReadyKeys,
-    head: Head,
-    invoke: u8,
-    counter: u32,
-    out: &mut [u8],
-) -> Told
+fn disprove(line: LineState, opened: Opened, invoke: u8, out: &mut [u8]) -> Told
     requires { HasRoom out.old }
-    ensures { TellsUnder keys (λ a. disproved (line_of line) a client head invoke counter) line out.old out.new result }
+    ensures { TellsUnder opened.keys (λ a. disproved (line_of line) a opened.client opened.head invoke opened.counter) line out.old out.new result }
 {
-    let title = line.title;
-    let held = line::counters_of(line, client);
-    let pair = counters::accept(held, counter);
-    let first = counters::take(pair);
-    let advanced = association::with_counters(line, client, first.counters);
-    let next = association::ended(advanced, Client::Ciphering(client));
-    let number = first.number;
-    let count = replies::send_denial(out, head, keys, title, invoke, 250, number);
+    let held = line::counters_of(line, opened.client);
+    let first = counters::take(counters::accept(held, opened.counter));
+    let advanced = association::with_counters(line, opened.client, first.counters);
+    let count = replies::send_denial(
+        out,
+        opened.head,
+        opened.keys,
+        line.title,
+        invoke,
+        250,
+        first.number,
+    );
     Told {
         refusal: 13,
         count,
-        line: next,
+        line: association::ended(advanced, Client::Ciphering(opened.client)),
     }
 }

@@ -6,7 +6,6 @@ ghost use Rattle.envelope.specs.Challenge.{proof_size, proof_value, right_proof}
 
 use material::{ReadyKeys, nonce, proof_data};
 use model::Counters;
-use wire::{End, Field};
 
 // Whether a parameter's value is the proof of the client with this title over this challenge of the meter, in an envelope with
 // the counter `outer`.
@@ -20,23 +19,18 @@ pub fn is_right_proof(
 ) -> bool
     ensures { result ≡ right_proof (keys_of keys) title challenge pair.accepted outer value.now }
 {
-    let End::At(a) = wire::expect_at(value, 0, b"\x09\x11\x10") else {
+    let Some(a) = wire::expect_at(value, 0, b"\x09\x11\x10") else {
         return false;
     };
-    let Field::Found {
-        value: inner,
-        next: b,
-    } = wire::u32_at(value, a)
-    else {
+    let Some((inner, b)) = wire::number_at::<4>(value, a) else {
         return false;
     };
     if !counters::is_inner_allowed(pair, outer, inner) {
         return false;
     }
-    let key = keys.key;
     let n = nonce(title, inner);
     let data = proof_data(keys, challenge);
-    gcm::is_authentic(key, n, &data, b"", &value[b..])
+    gcm::is_authentic(keys.key, n, &data, b"", &value[b..])
 }
 
 // Writes the proof of the meter with this title over this challenge of the client, as a value.
@@ -51,11 +45,10 @@ pub fn put_proof(
     requires { at + proof_size ≤ length out.old }
     ensures { Wrote out.old at out.new result (proof_value (keys_of keys) title challenge counter) }
 {
-    let key = keys.key;
     let n = nonce(title, counter);
     let data = proof_data(keys, challenge);
-    let t = gcm::gmac(key, n, &data);
+    let t = gcm::gmac(keys.key, n, &data);
     let a = wire_write::put_all(out, at, b"\x09\x11\x10");
-    let b = wire_write::put_u32(out, a, counter);
-    wire_write::put_12(out, b, &t)
+    let b = wire_write::put_number::<4>(out, a, counter);
+    wire_write::put_array(out, b, &t)
 }

@@ -31,11 +31,10 @@ pub fn close_envelope(
 {
     let start = put_head(out, at, tag, counter, n);
     let end = start + n;
-    let key = keys.key;
     let v = nonce(title, counter);
     let data = associated_data(keys);
-    let t = gcm::seal(key, v, &data, &mut out[start..end]);
-    wire_write::put_12(out, end, &t)
+    let t = gcm::seal(keys.key, v, &data, &mut out[start..end]);
+    wire_write::put_array(out, end, &t)
 }
 
 // What stands before a text of `n` bytes.
@@ -46,5 +45,5 @@ fn put_head(out: &mut [u8], at: usize, tag: u8, counter: u32, n: usize) -> usize
     let a = wire_write::put(out, at, tag);
     let b = wire_write::put_length(out, a, n + 17);
     let c = wire_write::put(out, b, 0x30);
-    wire_write::put_u32(out, c, counter)
+    wire_write::put_number::<4>(out, c, counter)
 }

@@ -14,28 +14,24 @@ pub use open::{admit_envelope, open_envelope, read_shape};
 // The longest APDU that a frame brings: a room for any plain text has this size.
 pub const LONGEST_APDU: usize = 765;
 
-// What an APDU comes to: no envelope, or not one sealed under these keys; or the counter and the size of the plain text.
+// An APDU that opened: its counter, and the size of its plain text.
 #[derive(Clone, Copy)]
-pub enum Opening {
-    Fails,
-    Opens { counter: u32, size: usize },
+pub struct Opening {
+    pub counter: u32,
+    pub size: usize,
 }
 
-// The same, with the counter held against its window.
+// Why an APDU is not admitted: it is no envelope, or not one sealed under these keys; or its counter lies outside its window.
 #[derive(Clone, Copy)]
-pub enum Admission {
+pub enum Unadmitted {
     Unopened,
     OutsideWindow,
-    Admitted { counter: u32, size: usize },
 }
 
-// The counter of an envelope, and where its cipher text and its GCM tag begin; or none, where the bytes are not of that shape.
+// The counter of an envelope, and where its cipher text and its GCM tag begin.
 #[derive(Clone, Copy)]
-pub enum Shape {
-    Misshapen,
-    Shaped {
-        counter: u32,
-        text: usize,
-        tag: usize,
-    },
+pub struct Shape {
+    pub counter: u32,
+    pub text: usize,
+    pub tag: usize,
 }

@@ -4,10 +4,9 @@ ghost use Rattle.std.specs.Prelude.{◌≡◌};
 ghost use Rattle.material.specs.Material.{keys_of};
 ghost use Rattle.envelope.specs.Opening.{AdmittedInto, opened, OpenedInto, shape_from, shape_of};
 
-use crate::{Admission, LONGEST_APDU, Opening, Shape};
+use crate::{LONGEST_APDU, Opening, Shape, Unadmitted};
 use material::{ReadyKeys, associated_data, nonce};
 use model::Counters;
-use wire::{End, Field};
 
 // Opens the APDU, which is to have this tag, into `out`; where it does not open, `out` stays as it is. An APDU has no more
 // bytes than `out`, and its text has fewer: no text that opens is too long for it.
@@ -17,27 +16,20 @@ pub fn open_envelope(
     tag: u8,
     apdu: &[u8],
     out: &mut [u8; LONGEST_APDU],
-) -> Opening
+) -> Option<Opening>
     ensures { OpenedInto (opened (keys_of keys) title tag apdu.now) out.old out.new result }
 {
-    let Shape::Shaped {
-        counter,
-        text,
-        tag: end,
-    } = read_shape(tag, apdu)
-    else {
-        return Opening::Fails;
-    };
-    let key = keys.key;
-    let n = nonce(title, counter);
+    let shape = read_shape(tag, apdu)?;
+    let (start, end) = (shape.text, shape.tag);
+    let n = nonce(title, shape.counter);
     let data = associated_data(keys);
-    if gcm::open_into(key, n, &data, &apdu[text..end], &apdu[end..], out) {
-        return Opening::Opens {
-            counter,
-            size: end - text,
-        };
+    if !gcm::open_into(keys.key, n, &data, &apdu[start..end], &apdu[end..], out) {
+        return None;
     }
-    Opening::Fails
+    Some(Opening {
+        counter: shape.counter,
+        size: end - start,
+    })
 }
 
 // The same, and then the counter held against the window of the pair.
@@ -48,64 +40,49 @@ pub fn admit_envelope(
     pair: Counters,
     apdu: &[u8],
     out: &mut [u8; LONGEST_APDU],
-) -> Admission
+) -> Result<Opening, Unadmitted>
     ensures { AdmittedInto pair.accepted (opened (keys_of keys) title tag apdu.now) out.old out.new result }
 {
-    let Opening::Opens { counter, size } = open_envelope(keys, title, tag, apdu, out) else {
-        return Admission::Unopened;
+    let Some(opening) = open_envelope(keys, title, tag, apdu, out) else {
+        return Err(Unadmitted::Unopened);
     };
-    if counters::is_in_window(pair, counter) {
-        return Admission::Admitted { counter, size };
+    if counters::is_in_window(pair, opening.counter) {
+        return Ok(opening);
     }
-    Admission::OutsideWindow
+    Err(Unadmitted::OutsideWindow)
 }
 
-// The counter of an envelope with this tag, and the places of its cipher text and GCM tag.
-pub fn read_shape(tag: u8, apdu: &[u8]) -> Shape
+// The counter of an envelope with this tag, and the places of its cipher text and GCM tag; none where the bytes are not of
+// that shape.
+#[tactic(auto, using(wire::proofs::LengthLaws::length_within), unfolding(crate::specs::Opening::shape_of, crate::specs::Opening::longest_apdu, model::specs::Limits::greatest_apdu, model::specs::Limits::longest_received))]
+pub fn read_shape(tag: u8, apdu: &[u8]) -> Option<Shape>
     ensures { result ≡ shape_of tag apdu.now }
 {
-    let all = apdu.len();
-    if LONGEST_APDU < all {
-        return Shape::Misshapen;
+    if LONGEST_APDU < apdu.len() {
+        return None;
     }
-    let first = [tag];
-    let End::At(a) = wire::expect_at(apdu, 0, &first) else {
-        return Shape::Misshapen;
-    };
-    let Field::Found {
-        value: size,
-        next: b,
-    } = wire::length_at(apdu, a)
-    else {
-        return Shape::Misshapen;
-    };
-    if b + (size as usize) != all {
-        return Shape::Misshapen;
+    let a = wire::expect_at(apdu, 0, &[tag])?;
+    let (size, b) = wire::length_at(apdu, a)?;
+    if b + (size as usize) != apdu.len() {
+        return None;
     }
     read_counter(apdu, b)
 }
 
 // The same from the security control on.
-fn read_counter(apdu: &[u8], at: usize) -> Shape
+#[tactic(auto, unfolding(crate::specs::Opening::shape_from))]
+fn read_counter(apdu: &[u8], at: usize) -> Option<Shape>
     ensures { result ≡ shape_from apdu.now at }
 {
     let all = apdu.len();
-    let End::At(c) = wire::expect_at(apdu, at, b"\x30") else {
-        return Shape::Misshapen;
-    };
-    let Field::Found {
-        value: counter,
-        next: d,
-    } = wire::u32_at(apdu, c)
-    else {
-        return Shape::Misshapen;
-    };
-    if all - d < 12 {
-        return Shape::Misshapen;
+    let c = wire::expect_at(apdu, at, b"\x30")?;
+    let (counter, text) = wire::number_at::<4>(apdu, c)?;
+    if all - text < 12 {
+        return None;
     }
-    Shape::Shaped {
+    Some(Shape {
         counter,
-        text: d,
+        text,
         tag: all - 12,
-    }
+    })
 }

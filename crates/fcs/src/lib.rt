@@ -1,4 +1,4 @@
-// The check of a frame, a byte at a time by a table. The table is made once for each call of `check` and lent.
+// The check of a frame, a byte at a time by a table.
 #![tactic(auto)]
 
 ghost use Rattle.std.specs.Prelude.{◌≡◌};
@@ -8,27 +8,29 @@ ghost use Rattle.fcs.specs.Check.{check_byte, check_of, Shifted};
 pub fn check(s: &[u8]) -> u16
     ensures { result ≡ check_of s.now }
 {
-    let t = TABLE;
     let mut c: u16 = 0xFFFF;
-    let mut i: usize = 0;
-    while i < s.len() {
-        c = update(&t, c, s[i]);
-        i += 1;
+    for b in s {
+        c = update(c, *b);
     }
     0xFFFF - c
 }
 
 // One byte more.
-fn update(t: &[u16; 256], c: u16, b: u8) -> u16
-    requires { Shifted t.now }
+fn update(c: u16, b: u8) -> u16
     ensures { result ≡ check_byte c b }
 {
     let k = (c ^ (b as u16)) % 256;
-    (c / 256) ^ t[k as usize]
+    (c / 256) ^ table()[k as usize]
+}
+
+fn table() -> &'static [u16; 256]
+    ensures { Shifted result.now }
+{
+    &TABLE
 }
 
 // At each byte, what eight shifts with feedback make of it.
-const TABLE: [u16; 256] = [
+static TABLE: [u16; 256] = [
     0x0000, 0x1189, 0x2312, 0x329B, 0x4624, 0x57AD, 0x6536, 0x74BF, 0x8C48, 0x9DC1, 0xAF5A, 0xBED3,
     0xCA6C, 0xDBE5, 0xE97E, 0xF8F7, 0x1081, 0x0108, 0x3393, 0x221A, 0x56A5, 0x472C, 0x75B7, 0x643E,
     0x9CC9, 0x8D40, 0xBFDB, 0xAE52, 0xDAED, 0xCB64, 0xF9FF, 0xE876, 0x2102, 0x308B, 0x0210, 0x1399,

@@ -3,9 +3,8 @@
 #![tactic(auto)]
 
 ghost use Rattle.std.specs.Prelude.{◌≡◌, ◌≤◌, ◌++◌, length, drop};
-ghost use Rattle.ghash.specs.Product.{num};
-ghost use Rattle.gcm.specs.Gcm.{hash_key, bit_length, authenticated, tag, authentic, «gmac» as gmac_of, «ready» as ready_of};
-ghost use Rattle.gcm.specs.Calls.{under, key_of, Sealed, Unsealed};
+ghost use Rattle.gcm.specs.Gcm.{hash_key, bit_length, lengths, tag, authentic, «gmac» as gmac_of, «ready» as ready_of};
+ghost use Rattle.gcm.specs.Calls.{key_of, Sealed, Unsealed};
 
 use aes::RoundKey;
 use ghash::Block;
@@ -30,10 +29,8 @@ pub fn ready(key: [u8; 16]) -> ReadyKey
 pub fn seal(key: ReadyKey, nonce: [u8; 12], aad: &[u8], text: &mut [u8]) -> [u8; 12]
     ensures { Sealed (key_of key) nonce aad.now text.old text.new result }
 {
-    let h = key.subkey;
-    let w = schedule_of(key);
-    gctr::encipher(w, nonce, 2, text);
-    tag_under(w, h, nonce, aad, text)
+    gctr::encipher(key.schedule(), nonce, 2, text);
+    key.tag(nonce, aad, text)
 }
 
 // Opens the cipher text c with the tag t into out: where the tag is right and c fits into out, the plain text stands in the
@@ -48,29 +45,21 @@ pub fn open_into(
 ) -> bool
     ensures { Unsealed (key_of key) nonce aad.now c.now t.now out.old out.new result }
 {
-    let n = c.len();
-    if out.len() < n {
+    if out.len() < c.len() || !key.matches(nonce, aad, c, t) {
         return false;
     }
-    let h = key.subkey;
-    let w = schedule_of(key);
-    if matches(w, h, nonce, aad, c, t) {
-        copy(c, out);
-        gctr::encipher(w, nonce, 2, &mut out[..n]);
-        return true;
-    }
-    false
+    copy(c, out);
+    gctr::encipher(key.schedule(), nonce, 2, &mut out[..c.len()]);
+    true
 }
 
-// Lays the bytes of c into the first places of out.
+// Lays the bytes of c into the first places of out. Not `copy_from_slice`, which needs memmove: firmware has none.
 fn copy(c: &[u8], out: &mut [u8])
     requires { length c.now ≤ length out.old }
     ensures { out.new ≡ c.now ++ drop (length c.now) out.old }
 {
-    let mut i = 0;
-    while i < c.len() {
-        out[i] = c[i];
-        i += 1;
+    for (i, b) in c.iter().enumerate() {
+        out[i] = *b;
     }
 }
 
@@ -78,68 +67,60 @@ fn copy(c: &[u8], out: &mut [u8])
 pub fn is_authentic(key: ReadyKey, nonce: [u8; 12], aad: &[u8], c: &[u8], t: &[u8]) -> bool
     ensures { result ≡ authentic (key_of key) nonce aad.now c.now t.now }
 {
-    let h = key.subkey;
-    let w = schedule_of(key);
-    matches(w, h, nonce, aad, c, t)
+    key.matches(nonce, aad, c, t)
 }
 
 // The tag of associated data alone.
 pub fn gmac(key: ReadyKey, nonce: [u8; 12], aad: &[u8]) -> [u8; 12]
     ensures { result ≡ gmac_of (key_of key) nonce aad.now }
 {
-    let h = key.subkey;
-    let w = schedule_of(key);
-    tag_under(w, h, nonce, aad, b"")
+    key.tag(nonce, aad, b"")
 }
 
-// The key schedule of a key that is ready.
-fn schedule_of(key: ReadyKey) -> [[[u8; 4]; 4]; 11]
-    ensures { result ≡ (key_of key).schedule }
-{
-    let k = key.rounds;
-    aes::schedule(k)
-}
+impl ReadyKey {
+    fn schedule(&self) -> [[[u8; 4]; 4]; 11]
+        ensures { result ≡ (key_of self.now).schedule }
+    {
+        aes::schedule(self.rounds)
+    }
 
-// The tag under a key schedule and a hash subkey.
-fn tag_under(w: [[[u8; 4]; 4]; 11], h: Block, nonce: [u8; 12], aad: &[u8], c: &[u8]) -> [u8; 12]
-    ensures { result ≡ tag (under w (num h)) nonce aad.now c.now }
-{
-    let mut s = ghash::bytes_of(authenticate(h, aad, c));
-    gctr::encipher(w, nonce, 1, &mut s);
-    wire::twelve_at(&s, 0)
-}
+    // The tag of associated data and cipher text.
+    fn tag(&self, nonce: [u8; 12], aad: &[u8], c: &[u8]) -> [u8; 12]
+        ensures { result ≡ tag (key_of self.now) nonce aad.now c.now }
+    {
+        let hash = ghash::hash_parts(self.subkey, aad, c, lengths(aad, c));
+        let mut s = ghash::bytes_of(hash);
+        gctr::encipher(self.schedule(), nonce, 1, &mut s);
+        wire::array_at(&s, 0)
+    }
 
-// The hash of associated data, cipher text and their lengths.
-fn authenticate(h: Block, aad: &[u8], c: &[u8]) -> Block
-    ensures { num result ≡ authenticated (num h) aad.now c.now }
-{
-    let n = Block {
-        hi: bit_length(aad),
-        lo: bit_length(c),
-    };
-    ghash::hash_parts(h, aad, c, n)
+    // Whether t is the tag. Every byte is compared, wherever two differ.
+    fn matches(&self, nonce: [u8; 12], aad: &[u8], c: &[u8], t: &[u8]) -> bool
+        ensures { result ≡ authentic (key_of self.now) nonce aad.now c.now t.now }
+    {
+        let r = self.tag(nonce, aad, c);
+        gcm_tag::is_same(r, t)
+    }
 }
 
 // The hash subkey.
 fn hash_key(w: [[[u8; 4]; 4]; 11]) -> Block
-    ensures { num result ≡ hash_key w }
+    ensures { result ≡ hash_key w }
 {
-    let z = [0u8; 4];
-    let b = aes::bytes_of(aes::encrypt_block(w, [z, z, z, z]));
+    let b = aes::bytes_of(aes::encrypt_block(w, [[0; 4]; 4]));
     ghash::load(&b)
+}
+
+// The block of the lengths of associated data and cipher text.
+fn lengths(aad: &[u8], c: &[u8]) -> Block
+    ensures { result ≡ lengths aad.now c.now }
+{
+    u128::from(bit_length(aad)) * 0x1_0000_0000_0000_0000 + u128::from(bit_length(c))
 }
 
 // The length in bits, as a number of 64 bits.
 fn bit_length(s: &[u8]) -> u64
     ensures { result ≡ bit_length s.now }
 {
-    (s.len() as u64) % 0x2000_0000_0000_0000 * 8
-}
-
-// Whether t is the tag under a key schedule and a hash subkey. Every byte is compared, wherever two differ.
-fn matches(w: [[[u8; 4]; 4]; 11], h: Block, nonce: [u8; 12], aad: &[u8], c: &[u8], t: &[u8]) -> bool
-    ensures { result ≡ authentic (under w (num h)) nonce aad.now c.now t.now }
-{
-    let r = tag_under(w, h, nonce, aad, c);
-    gcm_tag::is_same(r, t)
+    (s.len() as u64).wrapping_mul(8)
 }

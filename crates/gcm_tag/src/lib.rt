@@ -12,10 +12,8 @@ pub fn is_same(r: [u8; 12], t: &[u8]) -> bool
         return false;
     }
     let mut d: u8 = 0;
-    let mut i: usize = 0;
-    while i < 12 {
-        d = d | (r[i] ^ t[i]);
-        i = i + 1;
+    for (a, b) in r.iter().zip(t) {
+        d |= a ^ b;
     }
     d == 0
 }

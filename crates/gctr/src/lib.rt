@@ -1,7 +1,7 @@
 // GCTR (SP 800-38D, 6.5) over AES-128, on the bytes where they stand.
 #![tactic(auto)]
 
-ghost use Rattle.std.specs.Prelude.{◌≡◌, min};
+ghost use Rattle.std.specs.Prelude.{◌≡◌, ◌≤◌, length};
 ghost use Rattle.gctr.specs.Gctr.{counter_block, stream_block, xor_with, gctr};
 
 // GCTR of the bytes of s from the counter c on, under the key schedule w. It enciphers, and deciphers as well.
@@ -9,13 +9,12 @@ pub fn encipher(w: [[[u8; 4]; 4]; 11], nonce: [u8; 12], c: u32, s: &mut [u8])
     ensures { s.new ≡ gctr w nonce c s.old }
 {
     let n = s.len();
-    let mut at: usize = 0;
-    let mut k: u32 = c;
-    while at < n {
-        let ks = stream_block(w, nonce, k);
-        mask(&mut s[at..], ks);
-        at = at + 16;
-        k = std::num::wrapping_add_u32(k, 1);
+    let mut k = c;
+    // By places: after a loop over `chunks_mut` a proof knows nothing of what was written.
+    for at in (0..n).step_by(16) {
+        let end = n.min(at + 16);
+        mask(&mut s[at..end], stream_block(w, nonce, k));
+        k = k.wrapping_add(1);
     }
 }
 
@@ -34,29 +33,16 @@ fn counter_block(nonce: [u8; 12], c: u32) -> [[u8; 4]; 4]
         [nonce[0], nonce[1], nonce[2], nonce[3]],
         [nonce[4], nonce[5], nonce[6], nonce[7]],
         [nonce[8], nonce[9], nonce[10], nonce[11]],
-        [
-            (c / 0x100_0000) as u8,
-            (c / 0x1_0000 % 256) as u8,
-            (c / 0x100 % 256) as u8,
-            (c % 256) as u8,
-        ],
+        c.to_be_bytes(),
     ]
 }
 
-// The first sixteen bytes of s, or all of them, each xored with the byte of ks at its place.
+// The bytes of s, sixteen at most, each xored with the byte of ks at its place.
 fn mask(s: &mut [u8], ks: [u8; 16])
+    requires { length s.old ≤ 16 }
     ensures { s.new ≡ xor_with s.old ks }
 {
-    let n = least(s.len(), 16);
-    let mut i: usize = 0;
-    while i < n {
-        s[i] = s[i] ^ ks[i];
-        i = i + 1;
+    for (i, x) in s.iter_mut().enumerate() {
+        *x ^= ks[i];
     }
-}
-
-fn least(a: usize, b: usize) -> usize
-    ensures { result ≡ min a b }
-{
-    if a < b { a } else { b }
 }

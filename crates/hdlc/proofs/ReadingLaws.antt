@@ -7,20 +7,17 @@ use native.Mathlib.Omega.{arith}
 use lib.Dec.{eqb, ltb}
 use lib.ListN.{length, take, drop}
 use borrow.Author.Tests.{lt-ltb, le-ltb, eq-eqb, ne_eqb, ltb-true, ltb-false, eqb-true, not-false}
+use Rattle.std.specs.Prelude.{Option, Some, None, is_some, Result, Ok, Err}
 use Rattle.model.specs.Limits.{greatest_length, longest_received}
 use Rattle.model.specs.declared.Client.{Client}
 use Rattle.hdlc.specs.Layout.{snrm, disc, ui, byte, length_of, head_of, information_of}
-use Rattle.hdlc.specs.Addresses.{sender_of, is_known}
+use Rattle.hdlc.specs.Addresses.{sender_of}
 use Rattle.hdlc.specs.Tests.{meter_side, AllPass, FirstOf, first_failing, frame_tests, number_of, layout_tests, check_tests, header_tests, control_tests}
 use Rattle.hdlc.specs.Reading.{accepted_frame, judged_frame, read_frame, refused_frame}
 use Rattle.hdlc.specs.declared.Frame.{Frame}
 use Rattle.hdlc.specs.declared.Frame.TheVariants.{Unanswered, Rejected, LinkUp, LinkDown, Apdu}
 use Rattle.hdlc.specs.declared.FrameTest.{FrameTest}
 use Rattle.hdlc.specs.declared.FrameTest.TheVariants.{ShortFrame, LengthMismatch, OverLength, WrongSource, UnknownControl, ShortInformation}
-use Rattle.hdlc.specs.declared.Sender.{Sender}
-use Rattle.hdlc.specs.declared.Sender.TheVariants.{Known, Unknown}
-use Rattle.hdlc.specs.declared.Verdict.{Verdict}
-use Rattle.hdlc.specs.declared.Verdict.TheVariants.{Failed, Passed}
 use Rattle.hdlc.proofs.LayoutLaws.{information_length}
 use Rattle.hdlc.proofs.TestLaws.{by_test, fails_first, passes_first, fails_here, passes_here, names_first, all_pass, passes_in}
 
@@ -36,7 +33,7 @@ after_layout = check_tests ++ after_checks
 
 module _ (f : List ℕ) where
   -- the first failing test of all, and the sender
-  decided : {v : Verdict} → first_failing meter_side frame_tests f ≡ v → read_frame f ≡ judged_frame f (sender_of (byte f 4)) v
+  decided : {v : Result (Unit {0}) FrameTest} → first_failing meter_side frame_tests f ≡ v → read_frame f ≡ judged_frame f (sender_of (byte f 4)) v
   unfolding read_frame
   decided e = ap (judged_frame f (sender_of (byte f 4))) e
 
@@ -48,33 +45,33 @@ module _ (f : List ℕ) where
     long : first_failing meter_side frame_tests f ≡ first_failing meter_side (layout_tests ++ after_layout) f
     long = passes_first meter_side f ShortFrame (layout_tests ++ after_layout) (le-ltb (length f) 9 h)
 
-    pub read_layout : {t : FrameTest} → first_failing meter_side layout_tests f ≡ Failed t → read_frame f ≡ refused_frame f t
+    pub read_layout : {t : FrameTest} → first_failing meter_side layout_tests f ≡ Err t → read_frame f ≡ refused_frame f t
     read_layout e = decided (long ∙ fails_here meter_side f layout_tests after_layout e)
 
-    module _ (l : first_failing meter_side layout_tests f ≡ Passed) where
+    module _ (l : first_failing meter_side layout_tests f ≡ Ok tt) where
       laid : first_failing meter_side frame_tests f ≡ first_failing meter_side after_layout f
       laid = long ∙ passes_here meter_side f layout_tests after_layout l
 
-      pub read_checks : {t : FrameTest} → first_failing meter_side check_tests f ≡ Failed t → read_frame f ≡ refused_frame f t
+      pub read_checks : {t : FrameTest} → first_failing meter_side check_tests f ≡ Err t → read_frame f ≡ refused_frame f t
       read_checks e = decided (laid ∙ fails_here meter_side f check_tests after_checks e)
 
-      module _ (k : first_failing meter_side check_tests f ≡ Passed) where
+      module _ (k : first_failing meter_side check_tests f ≡ Ok tt) where
         checked : first_failing meter_side frame_tests f ≡ first_failing meter_side after_checks f
         checked = laid ∙ passes_here meter_side f check_tests after_checks k
 
-        pub read_header : {t : FrameTest} → first_failing meter_side header_tests f ≡ Failed t → read_frame f ≡ refused_frame f t
+        pub read_header : {t : FrameTest} → first_failing meter_side header_tests f ≡ Err t → read_frame f ≡ refused_frame f t
         read_header e = decided (checked ∙ fails_here meter_side f header_tests after_header e)
 
-        module _ (j : first_failing meter_side header_tests f ≡ Passed) where
+        module _ (j : first_failing meter_side header_tests f ≡ Ok tt) where
           headed : first_failing meter_side frame_tests f ≡ first_failing meter_side after_header f
           headed = checked ∙ passes_here meter_side f header_tests after_header j
 
-          pub read_unknown : sender_of (byte f 4) ≡ Unknown → read_frame f ≡ refused_frame f WrongSource
-          read_unknown e = decided (headed ∙ fails_first meter_side f WrongSource control_tests (ap (λ s. not (is_known s)) e))
+          pub read_unknown : sender_of (byte f 4) ≡ None → read_frame f ≡ refused_frame f WrongSource
+          read_unknown e = decided (headed ∙ fails_first meter_side f WrongSource control_tests (ap (λ s. not (is_some s)) e))
 
-          pub read_known : (c : Client) → sender_of (byte f 4) ≡ Known c → read_frame f ≡ judged_frame f (Known c) (first_failing meter_side control_tests f)
+          pub read_known : (c : Client) → sender_of (byte f 4) ≡ Some c → read_frame f ≡ judged_frame f (Some c) (first_failing meter_side control_tests f)
           read_known c e =
-              decided (headed ∙ passes_first meter_side f WrongSource control_tests (ap (λ s. not (is_known s)) e)) ∙ ap (λ s. judged_frame f s (first_failing meter_side control_tests f)) e
+              decided (headed ∙ passes_first meter_side f WrongSource control_tests (ap (λ s. not (is_some s)) e)) ∙ ap (λ s. judged_frame f s (first_failing meter_side control_tests f)) e
 
 -- What an accepted frame is, by its control.
 module _ (f : List ℕ) (c : Client) where
@@ -93,7 +90,7 @@ module _ (f : List ℕ) (c : Client) where
 -- a frame of a client with a control, that passes every test
 pub record AcceptedFrame (c : Client) (control : ℕ) (f : List ℕ) : Type 0 where
   pub passes : AllPass meter_side f frame_tests
-  pub source : sender_of (byte f 4) ≡ Known c
+  pub source : sender_of (byte f 4) ≡ Some c
   pub command : byte f 5 ≡ control
 
 -- an APDU that stands in a frame: at least one byte of it, and with LLC no more than the longest information
@@ -127,7 +124,7 @@ module _ (f : List ℕ) where
       let n = information_length f in
       record { first = refl; last = omega arith; some = omega arith; most = omega arith }
 
-  accepted_told : (c : Client) → AllPass meter_side f frame_tests → sender_of (byte f 4) ≡ Known c → Told f (accepted_frame c f)
+  accepted_told : (c : Client) → AllPass meter_side f frame_tests → sender_of (byte f 4) ≡ Some c → Told f (accepted_frame c f)
   accepted_told c p s =
       let known = passes_in meter_side f (take 14 frame_tests) (drop 15 frame_tests) UnknownControl p in
       let with : (k : ℕ) → byte f 5 ≡ k → AcceptedFrame c k f = λ k e. record { passes = p; source = s; command = e } in
@@ -145,9 +142,9 @@ module _ (f : List ℕ) where
   unfolding read_frame
   read_told = go (first_failing meter_side frame_tests f) refl (sender_of (byte f 4)) refl
     where
-      go : (v : Verdict) → first_failing meter_side frame_tests f ≡ v → (s : Sender) → sender_of (byte f 4) ≡ s → Told f (judged_frame f s v)
-      go (Failed t) e s q = refused_told t (names_first meter_side f frame_tests e)
-      go Passed e (Known c) q = accepted_told c (all_pass meter_side f frame_tests e) q
-      go Passed e Unknown q =
+      go : (v : Result (Unit {0}) FrameTest) → first_failing meter_side frame_tests f ≡ v → (s : Option Client) → sender_of (byte f 4) ≡ s → Told f (judged_frame f s v)
+      go (Err t) e s q = refused_told t (names_first meter_side f frame_tests e)
+      go (Ok done) e (Some c) q = accepted_told c (all_pass meter_side f frame_tests e) q
+      go (Ok done) e None q =
           let p = passes_in meter_side f (take 13 frame_tests) (drop 14 frame_tests) WrongSource (all_pass meter_side f frame_tests e) in
-          absurd (false≢true (sym p ∙ ap (λ s. not (is_known s)) q))
+          absurd (false≢true (sym p ∙ ap (λ s. not (is_some s)) q))

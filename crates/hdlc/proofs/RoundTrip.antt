@@ -10,6 +10,7 @@ use lib.Dec.{eqb, ltb}
 use lib.ListN.{length, take, drop, length-append}
 use lib.Seq.{take_at, drop_at, get_or_at}
 use borrow.Author.Tests.{lt-ltb, le-ltb, eq-eqb, ne_eqb}
+use Rattle.std.specs.Prelude.{Some, is_some, Ok}
 use Rattle.model.specs.Limits.{greatest_length, longest_received, longest_sent}
 use Rattle.model.specs.declared.Client.{Client}
 use Rattle.model.specs.declared.Client.TheVariants.{Verification, Ciphering}
@@ -21,15 +22,13 @@ use Rattle.wire.specs.Reading.{part}
 use Rattle.wire.proofs.NumberLaws.{low_number, high_number}
 use Rattle.wire.proofs.SameLaws.{same_self}
 use Rattle.hdlc.specs.Layout.{flag, ui, byte, format_of, length_of, head_of, hcs_of, hcs_covers, information_of, fcs_of, fcs_covers, head_bytes, checked, flagged, frame_of}
-use Rattle.hdlc.specs.Addresses.{meter_address, address_of, sender_of, is_known}
+use Rattle.hdlc.specs.Addresses.{meter_address, address_of, sender_of}
 use Rattle.hdlc.specs.Tests.{Side, fails, frame_tests, first_failing, AllPass, none, more, meter_side, client_side, request_llc}
 use Rattle.hdlc.specs.declared.FrameTest.TheVariants.{ShortFrame, FlagMissing, FrameType, LengthMismatch, LengthEightOrNine, WrongFcs, WrongHcs, EvenAddress, FrmrReceived, OverLength, SegmentBit, PfClear, WrongDestination, WrongSource, UnknownControl, LinkDownWithInformation, ShortInformation, WrongLlc}
 use Rattle.hdlc.specs.Reading.{judged_frame, read_frame}
 use Rattle.hdlc.specs.Replies.{data_frame, apdu_frame}
 use Rattle.hdlc.specs.declared.Frame.TheVariants.{Apdu}
 use Rattle.hdlc.specs.declared.Head.{Head}
-use Rattle.hdlc.specs.declared.Sender.TheVariants.{Known}
-use Rattle.hdlc.specs.declared.Verdict.TheVariants.{Passed}
 use Rattle.hdlc.proofs.LayoutLaws.{information_rest, length_head, length_checked, length_flagged, frame_full, length_full}
 use Rattle.hdlc.proofs.TestLaws.{passes_both, none_fails}
 use Rattle.hdlc.proofs.ReadingLaws.{accepted_apdu}
@@ -223,7 +222,7 @@ module _ (r : Side) (s : ℕ) (a : List ℕ) (od : r.own % 2 ≡ 1) (os : s % 2 
 odd_address : (c : Client) → address_of c % 2 ≡ 1
 odd_address c = omega arith
 
-known_address : (c : Client) → sender_of (address_of c) ≡ Known c
+known_address : (c : Client) → sender_of (address_of c) ≡ Some c
 unfolding sender_of
 known_address Verification = refl
 known_address (Ciphering Han) = refl
@@ -236,7 +235,7 @@ module _ (c : Client) (h : Head) (to : h.source ≡ address_of c) (from : h.dest
   reply_back i some fits =
       rw (to, from) (read_back (client_side c) (address_of c) meter_address ui i (odd_address c) refl (omega arith))
 
-  pub reply_passes : (a : List ℕ) → 0 < length a → 3 + length a ≤ longest_sent → first_failing (client_side c) frame_tests (apdu_frame h a) ≡ Passed
+  pub reply_passes : (a : List ℕ) → 0 < length a → 3 + length a ≤ longest_sent → first_failing (client_side c) frame_tests (apdu_frame h a) ≡ Ok tt
   unfolding longest_sent
   reply_passes a some fits =
       rw (to, from) (none_fails (client_side c) (data_to (client_side c) meter_address a) (data_passes (client_side c) meter_address a (odd_address c) refl refl refl some fits (omega arith)))
@@ -255,8 +254,8 @@ module _ (c : Client) (a : List ℕ) (some : 0 < length a) (fits : 3 + length a 
   request_read =
       let f = data_to meter_side (address_of c) a in
       let b = request_back in
-      let source : sender_of (byte f 4) ≡ Known c = ap (λ (h : Head). sender_of h.source) b.head ∙ known_address c in
-      let passed = none_fails meter_side f (data_passes meter_side (address_of c) a refl (odd_address c) (ap is_known (known_address c)) refl some fits (omega arith)) in
+      let source : sender_of (byte f 4) ≡ Some c = ap (λ (h : Head). sender_of h.source) b.head ∙ known_address c in
+      let passed = none_fails meter_side f (data_passes meter_side (address_of c) a refl (odd_address c) (ap is_some (known_address c)) refl some fits (omega arith)) in
       let n : length f - 3 ≡ 11 + length a = omega (arith, request_length) in
       ap₂ (judged_frame f) source passed
       ∙ accepted_apdu f c (ap (λ (h : Head). h.control) b.head)

@@ -1,11 +1,9 @@
 -- Addresses on the wire (document 01, "The frame"): "twice the number plus one". The numbers of the clients stand in "What
 -- the meter side covers". A further client is a number, and a place in the list of clients.
-use Rattle.std.specs.Prelude.{Bool, true, false, cond, List, [], ◌∷◌, ℕ, ◌+◌, ◌*◌, eqb}
+use Rattle.std.specs.Prelude.{cond, List, [], ◌∷◌, Option, Some, None, ℕ, ◌+◌, ◌*◌, eqb}
 use Rattle.model.specs.declared.Client.{Client}
 use Rattle.model.specs.declared.Client.TheVariants.{Verification, Ciphering}
 use Rattle.model.specs.declared.CipherClient.TheVariants.{Han}
-use Rattle.hdlc.specs.declared.Sender.{Sender}
-use Rattle.hdlc.specs.declared.Sender.TheVariants.{Known, Unknown}
 
 -- the address of a number
 abbrev pub on_wire : ℕ → ℕ
@@ -29,15 +27,10 @@ abbrev pub clients : List Client
 clients = Verification ∷ Ciphering Han ∷ []
 
 -- the client of a list that has the address
-abbrev pub sender_among : List Client → ℕ → Sender
-sender_among [] a = Unknown
-sender_among (c ∷ cs) a = cond (eqb a (address_of c)) (Known c) (sender_among cs a)
+abbrev pub sender_among : List Client → ℕ → Option Client
+sender_among [] a = None
+sender_among (c ∷ cs) a = cond (eqb a (address_of c)) (Some c) (sender_among cs a)
 
 -- the client that has the address
-unfoldable pub sender_of : ℕ → Sender
+unfoldable pub sender_of : ℕ → Option Client
 sender_of a = sender_among clients a
-
--- the address is a client's
-abbrev pub is_known : Sender → Bool
-is_known (Known c) = true
-is_known Unknown = false

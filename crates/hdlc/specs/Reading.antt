@@ -1,7 +1,7 @@
 -- What a received frame is to the meter (document 01, "The frame" and "What goes out"): refused by the first test that it
 -- fails, or else by its control a link up, a link down or an APDU. What goes out for it is not said here, but for which
 -- refusals nothing does.
-use Rattle.std.specs.Prelude.{cond, List, ℕ, ◌-◌, eqb, ltb, length}
+use Rattle.std.specs.Prelude.{cond, List, ℕ, ◌-◌, eqb, ltb, length, Option, Some, None, Result, Ok, Err}
 use Rattle.model.specs.declared.Client.{Client}
 use Rattle.hdlc.specs.Layout.{snrm, disc, byte, head_of, information_of}
 use Rattle.hdlc.specs.Addresses.{sender_of}
@@ -10,10 +10,6 @@ use Rattle.hdlc.specs.declared.Frame.{Frame}
 use Rattle.hdlc.specs.declared.Frame.TheVariants.{Unanswered, Rejected, LinkUp, LinkDown, Apdu}
 use Rattle.hdlc.specs.declared.FrameTest.{FrameTest}
 use Rattle.hdlc.specs.declared.FrameTest.TheVariants.{WrongSource}
-use Rattle.hdlc.specs.declared.Sender.{Sender}
-use Rattle.hdlc.specs.declared.Sender.TheVariants.{Known, Unknown}
-use Rattle.hdlc.specs.declared.Verdict.{Verdict}
-use Rattle.hdlc.specs.declared.Verdict.TheVariants.{Failed, Passed}
 
 -- refused by a test: nothing goes out for refusals 4 and 5, FRMR for 8 and 9
 unfoldable pub refused_frame : List ℕ → FrameTest → Frame
@@ -27,10 +23,10 @@ accepted_frame c f =
     (Apdu c (head_of f) 11 (length f - 3)))
 
 -- by the sender and what the tests came to. That the source is known is one of the tests, so an unknown one never passes.
-abbrev pub judged_frame : List ℕ → Sender → Verdict → Frame
-judged_frame f s (Failed t) = refused_frame f t
-judged_frame f (Known c) Passed = accepted_frame c f
-judged_frame f Unknown Passed = refused_frame f WrongSource
+abbrev pub judged_frame : List ℕ → Option Client → Result (Unit {0}) FrameTest → Frame
+judged_frame f s (Err t) = refused_frame f t
+judged_frame f (Some c) (Ok done) = accepted_frame c f
+judged_frame f None (Ok done) = refused_frame f WrongSource
 
 -- what a received frame is, for every byte string
 unfoldable pub read_frame : List ℕ → Frame

@@ -1,18 +1,14 @@
 -- The tests of a received frame (document 01, "The frame"): when a frame fails each, their order, the first that fails, its
 -- refusal number, and the byte at which it fails. Everything else about a refused frame follows from these.
-use Rattle.std.specs.Prelude.{Bool, true, false, not, ◌&&◌, ◌||◌, cond, List, [], ◌∷◌, ◌++◌, ◌≡◌, ℕ, ◌-◌, ◌/◌, ◌%◌, eqb, ltb, length, take}
+use Rattle.std.specs.Prelude.{Bool, true, false, not, ◌&&◌, ◌||◌, cond, List, [], ◌∷◌, ◌++◌, ◌≡◌, ℕ, ◌-◌, ◌/◌, ◌%◌, eqb, ltb, length, take, Option, Some, None, is_some, Result, Ok, Err}
 use Rattle.fcs.specs.Check.{check_of}
 use Rattle.model.specs.Limits.{greatest_length, longest_received, longest_sent}
 use Rattle.model.specs.declared.Client.{Client}
 use Rattle.wire.specs.Reading.{same_bytes}
 use Rattle.hdlc.specs.Layout.{flag, snrm, disc, ui, byte, type_of, segment_bit, length_of, hcs_of, hcs_covers, information_of, fcs_of, fcs_covers}
-use Rattle.hdlc.specs.Addresses.{meter_address, address_of, sender_of, is_known}
+use Rattle.hdlc.specs.Addresses.{meter_address, address_of, sender_of}
 use Rattle.hdlc.specs.declared.FrameTest.{FrameTest}
 use Rattle.hdlc.specs.declared.FrameTest.TheVariants.{ShortFrame, FlagMissing, FrameType, LengthMismatch, LengthEightOrNine, WrongFcs, WrongHcs, EvenAddress, FrmrReceived, OverLength, SegmentBit, PfClear, WrongDestination, WrongSource, UnknownControl, LinkDownWithInformation, ShortInformation, WrongLlc}
-use Rattle.hdlc.specs.declared.Place.{Place}
-use Rattle.hdlc.specs.declared.Place.TheVariants.{Byte, Nowhere}
-use Rattle.hdlc.specs.declared.Verdict.{Verdict}
-use Rattle.hdlc.specs.declared.Verdict.TheVariants.{Failed, Passed}
 
 -- The side of the link that reads: its address, the addresses that it takes frames from, the LLC that it expects, and the
 -- longest information that it takes. Of data frames the tests are the same on both sides.
@@ -32,7 +28,7 @@ reply_llc = 0xE6 ∷ 0xE7 ∷ 0x00 ∷ []
 -- the meter, which takes requests of the clients
 abbrev pub meter_side : Side
 meter_side =
-    record { own = meter_address; takes = λ a. is_known (sender_of a); llc = request_llc; longest = longest_received }
+    record { own = meter_address; takes = λ a. is_some (sender_of a); llc = request_llc; longest = longest_received }
 
 -- a client, which takes data frames of the meter
 abbrev pub client_side : Client → Side
@@ -87,10 +83,10 @@ frame_tests =
     ∷ WrongLlc
     ∷ []
 
--- the first test of a list that the frame fails
-unfoldable pub first_failing : Side → List FrameTest → List ℕ → Verdict
-first_failing r [] f = Passed
-first_failing r (t ∷ ts) f = cond (fails r t f) (Failed t) (first_failing r ts f)
+-- what a list of tests comes to: the first that the frame fails is the error
+unfoldable pub first_failing : Side → List FrameTest → List ℕ → Result (Unit {0}) FrameTest
+first_failing r [] f = Ok tt
+first_failing r (t ∷ ts) f = cond (fails r t f) (Err t) (first_failing r ts f)
 
 -- the frame passes every test of a list
 pub data AllPass (r : Side) (f : List ℕ) : List FrameTest → Type 0 where
@@ -128,25 +124,25 @@ number_of WrongLlc = 9
 
 -- the first byte of the field that fails the test, counted from 0, of two fields the first that fails; information that is
 -- absent, short or unwanted counts as byte 8
-abbrev pub place_of : FrameTest → List ℕ → Place
-place_of ShortFrame f = Byte 0
-place_of FlagMissing f = Byte (cond (eqb (byte f 0) flag) (length f - 1) 0)
-place_of FrameType f = Byte 1
-place_of LengthMismatch f = Byte 1
-place_of LengthEightOrNine f = Byte 1
-place_of WrongFcs f = Byte (length f - 3)
-place_of WrongHcs f = Byte 6
-place_of EvenAddress f = Byte (cond (eqb (byte f 3 % 2) 0) 3 4)
-place_of FrmrReceived f = Nowhere
-place_of OverLength f = Nowhere
-place_of SegmentBit f = Byte 1
-place_of PfClear f = Byte 5
-place_of WrongDestination f = Byte 3
-place_of WrongSource f = Byte 4
-place_of UnknownControl f = Byte 5
-place_of LinkDownWithInformation f = Byte 8
-place_of ShortInformation f = Byte 8
-place_of WrongLlc f = Byte 8
+abbrev pub place_of : FrameTest → List ℕ → Option ℕ
+place_of ShortFrame f = Some 0
+place_of FlagMissing f = Some (cond (eqb (byte f 0) flag) (length f - 1) 0)
+place_of FrameType f = Some 1
+place_of LengthMismatch f = Some 1
+place_of LengthEightOrNine f = Some 1
+place_of WrongFcs f = Some (length f - 3)
+place_of WrongHcs f = Some 6
+place_of EvenAddress f = Some (cond (eqb (byte f 3 % 2) 0) 3 4)
+place_of FrmrReceived f = None
+place_of OverLength f = None
+place_of SegmentBit f = Some 1
+place_of PfClear f = Some 5
+place_of WrongDestination f = Some 3
+place_of WrongSource f = Some 4
+place_of UnknownControl f = Some 5
+place_of LinkDownWithInformation f = Some 8
+place_of ShortInformation f = Some 8
+place_of WrongLlc f = Some 8
 
 -- Stretches of the list that one function each goes through. By proofs/ReadingLaws they are the list, with ShortFrame before
 -- them and WrongSource before the last.

@@ -32,26 +32,12 @@ pub enum FrameTest {
     WrongLlc,
 }
 
-// What a list of tests comes to: the first that fails, or none.
-#[derive(Clone, Copy)]
-pub enum Verdict {
-    Failed(FrameTest),
-    Passed,
-}
-
 // Addresses and control as they were received. A reply exchanges the addresses, and an FRMR repeats the control.
 #[derive(Clone, Copy)]
 pub struct Head {
     pub destination: u8,
     pub source: u8,
     pub control: u8,
-}
-
-// Who a source address belongs to.
-#[derive(Clone, Copy)]
-pub enum Sender {
-    Known(Client),
-    Unknown,
 }
 
 // What a received frame is.
@@ -79,11 +65,4 @@ pub enum Frame {
         start: usize,
         end: usize,
     },
-}
-
-// The first byte of the field that a test is about, counted from 0; none for refusals 5 and 8.
-#[derive(Clone, Copy)]
-pub enum Place {
-    Byte(usize),
-    Nowhere,
 }

@@ -3,8 +3,7 @@
 // count. What the frames are stands in specs/ of the crate hdlc; proofs/ has the laws for callers.
 #![tactic(auto)]
 
-ghost use Rattle.std.specs.Prelude.{◌≡◌, [], ◌∷◌, ◌+◌, ◌≤◌, ◌<◌};
-ghost use lib.ListN.{length};
+ghost use Rattle.std.specs.Prelude.{◌≡◌, [], ◌∷◌, ◌+◌, ◌≤◌, ◌<◌, length};
 ghost use Rattle.fcs.specs.Check.{check_of};
 ghost use Rattle.wire.specs.Numbers.{low_first};
 ghost use Rattle.wire.specs.Reading.{part};
@@ -15,7 +14,7 @@ ghost use Rattle.hdlc.specs.Replies.{ua_frame, dm_frame, frmr_frame, data_frame,
 
 use hdlc::{FrameTest, Head, number_of};
 
-// UA.
+// UA, and DM below: one `put_plain` under two names that docs/CONTRACTS.md has.
 pub fn put_ua(out: &mut [u8], head: Head) -> usize
     requires { 9 ≤ length out.old }
     ensures { Sent (ua_frame head) out.old out.new result }
@@ -36,9 +35,7 @@ pub fn put_frmr(out: &mut [u8], head: Head, test: FrameTest) -> usize
     requires { 14 ≤ length out.old }
     ensures { Sent (frmr_frame head test) out.old out.new result }
 {
-    let second = wire_write::put(out, 8, head.control);
-    let third = wire_write::put(out, second, 0x00);
-    let end = wire_write::put(out, third, reject_code(test));
+    let end = wire_write::put_all(out, 8, &[head.control, 0x00, reject_code(test)]);
     put_around(out, head, 0x97, end)
 }
 
@@ -66,6 +63,7 @@ fn reject_code(test: FrameTest) -> u8
 }
 
 // A frame without information.
+#[tactic(auto, unfolding(hdlc::specs::Layout::head_bytes))]
 fn put_plain(out: &mut [u8], head: Head, control: u8) -> usize
     requires { 9 ≤ length out.old }
     ensures { Sent (reply_frame head control []) out.old out.new result }
@@ -76,6 +74,7 @@ fn put_plain(out: &mut [u8], head: Head, control: u8) -> usize
 }
 
 // A frame around the information that stands from byte 8 up to `end`.
+#[tactic(auto, unfolding(hdlc::specs::Layout::head_bytes))]
 fn put_around(out: &mut [u8], head: Head, control: u8, end: usize) -> usize
     requires { (8 < end) × (end + 1 < 0x800) × (end + 3 ≤ length out.old) }
     ensures { Sent (reply_frame head control (part 8 end out.old)) out.old out.new result }
@@ -86,16 +85,14 @@ fn put_around(out: &mut [u8], head: Head, control: u8, end: usize) -> usize
     wire_write::put(out, last, 0x7E)
 }
 
-// The flag, the format with the length, the addresses exchanged, the control.
-fn put_head(out: &mut [u8], head: Head, control: u8, length: usize) -> usize
-    requires { (6 ≤ lib.ListN.length out.old) × (length < 0x800) }
-    ensures { Wrote out.old 0 out.new result (flag ∷ head_bytes length head.source head.destination control) }
+// The flag, the format with the length that is counted, the addresses exchanged, the control.
+fn put_head(out: &mut [u8], head: Head, control: u8, counted: usize) -> usize
+    requires { (6 ≤ length out.old) × (counted < 0x800) }
+    ensures { Wrote out.old 0 out.new result (flag ∷ head_bytes counted head.source head.destination control) }
 {
     let format = wire_write::put(out, 0, 0x7E);
-    let destination = wire_write::put_u16(out, format, 0xA000 + (length as u16));
-    let source = wire_write::put(out, destination, head.source);
-    let place = wire_write::put(out, source, head.destination);
-    wire_write::put(out, place, control)
+    let addresses = wire_write::put_number::<2>(out, format, 0xA000 + (counted as u32));
+    wire_write::put_all(out, addresses, &[head.source, head.destination, control])
 }
 
 // The check of the bytes after the flag up to `at`, put there, low byte first.

@@ -9,7 +9,7 @@ use native.Mathlib.Omega.{arith}
 use lib.Dec.{eqb, ltb}
 use lib.ListN.{length, take, drop, get_or, replicate, length-append, length-drop, length-replicate}
 use lib.Seq.{take_at, drop_at, drop-drop, take-add, get_or-drop, length-take-le}
-use borrow.Author.Tests.{eq-eqb, ne_eqb, ltb-true}
+use borrow.Author.Tests.{ltb-true}
 use Rattle.wire.specs.Numbers.{high_first, number_high}
 use Rattle.wire.specs.Reading.{filled}
 use Rattle.wire.proofs.NumberLaws.{Bytes, length_high, high_number, high_bytes}
@@ -137,17 +137,6 @@ kind_lawful = one_of_lawful kind_byte Whole Dated Numbered kind_told refl refl r
 -- the byte at a place
 pub at_front : (s : List ℕ) (at : ℕ) → get_or (drop at s) 0 0 ≡ get_or s at 0
 at_front s at = rw (get_or-drop at s 0 0, add-zero at)
-
--- one of three, by what was found of the byte there
-module _ {A : Type 0} (f : A → ℕ) (x y z : A) (s : List ℕ) (at : ℕ) where
-  pub first_of : get_or s at 0 ≡ 0 → Got (one_of f x y z) s at x
-  first_of e = record { is = rw (at_front s at, eq-eqb _ _ e) }
-
-  pub second_of : (get_or s at 0 ≡ 0 → ⊥) → get_or s at 0 ≡ 1 → Got (one_of f x y z) s at y
-  second_of n e = record { is = rw (at_front s at, ne_eqb _ _ n, eq-eqb _ _ e) }
-
-  pub third_of : (get_or s at 0 ≡ 0 → ⊥) → (get_or s at 0 ≡ 1 → ⊥) → Got (one_of f x y z) s at z
-  third_of n k = record { is = rw (at_front s at, ne_eqb _ _ n, ne_eqb _ _ k) }
 
 -- One after the other.
 

@@ -9,40 +9,35 @@ use lib.ListN.{length, drop, get_or, replicate, length-drop}
 use lib.Seq.{take_all}
 use borrow.Author.Tests.{eq-eqb, ne_eqb, eqb-true}
 use Rattle.meter.specs.declared.Meter.{Meter}
-use Rattle.image.specs.declared.ImageRead.{ImageRead}
-use Rattle.image.specs.declared.Status.{Status}
-use Rattle.image.specs.declared.Status.TheVariants.{Whole, WrongLength, WrongVersion, NoImage}
+use Rattle.std.specs.Prelude.{Ok, Err}
+use Rattle.image.specs.declared.ImageFault.TheVariants.{WrongLength, WrongVersion, NoImage}
 use Rattle.image.specs.Codec.{Got}
 use Rattle.image.specs.Layout.{meter_part}
-use Rattle.image.specs.Image.{version, image_size, image_of, meter_of, meter_in, blank_meter, status_of, meter_by, read_image, ReadBack, WrittenBack}
+use Rattle.image.specs.Image.{version, image_size, image_of, meter_of, meter_in, blank_meter, Status, whole, status_of, read_by, read_image, ReadBack, WrittenBack}
 use Rattle.image.proofs.CodecLaws.{rest_bytes}
-use Rattle.image.proofs.Sizes.{sizes}
+use Rattle.image.specs.Sizes.{sizes}
 use Rattle.image.proofs.LayoutLaws.{meter_lawful}
 use Rattle.image.proofs.HoldableLaws.{meter_holds}
 
 -- the tests of reading, one by one
 module _ (s : List ℕ) where
-  pub other_length : (length s ≡ image_size → ⊥) → status_of s ≡ WrongLength
+  pub other_length : (length s ≡ image_size → ⊥) → status_of s ≡ Err WrongLength
   unfolding status_of
   other_length h = rw (ne_eqb (length s) image_size h)
 
   module _ (h : length s ≡ image_size) where
-    pub other_version : (get_or s 0 0 ≡ version → ⊥) → status_of s ≡ WrongVersion
+    pub other_version : (get_or s 0 0 ≡ version → ⊥) → status_of s ≡ Err WrongVersion
     unfolding status_of
     other_version v = rw (eq-eqb (length s) image_size h, ne_eqb (get_or s 0 0) version v)
 
     module _ (v : get_or s 0 0 ≡ version) where
-      pub not_taken : meter_part.taken (drop 1 s) ≡ false → status_of s ≡ NoImage
+      pub not_taken : meter_part.taken (drop 1 s) ≡ false → status_of s ≡ Err NoImage
       unfolding status_of
       not_taken t = rw (eq-eqb (length s) image_size h, eq-eqb (get_or s 0 0) version v, t)
 
-      pub all_passed : meter_part.taken (drop 1 s) ≡ true → status_of s ≡ Whole
+      pub all_passed : meter_part.taken (drop 1 s) ≡ true → status_of s ≡ whole
       unfolding status_of
       all_passed t = rw (eq-eqb (length s) image_size h, eq-eqb (get_or s 0 0) version v, t)
-
--- what is read, by its status
-pub read_by : (s : List ℕ) (t : Status) → status_of s ≡ t → record { status = t; meter = meter_by t s } ≡ read_image s
-read_by s t e = ap (λ (u : Status). record { status = u; meter = meter_by u s }) (sym e)
 
 pub blank_is : blank_meter ≡ meter_part.value (replicate 1765 0)
 unfolding blank_meter
@@ -60,9 +55,9 @@ pub meter_there : (s : List ℕ) {m : Meter} → length s ≡ image_size → Got
 unfolding meter_of
 meter_there s h g = g.is ∙ sym (in_meter s h)
 
-pub refused_read : (s : List ℕ) (t : Status) {r : ImageRead} → status_of s ≡ t → meter_by t s ≡ blank_meter → (r.status ≡ t) × (r.meter ≡ blank_meter) → r ≡ read_image s
-refused_read s t e b q =
-    ap₂ (λ (u : Status) (x : Meter). record { status = u; meter = x }) q.0 (q.1 ∙ sym b) ∙ read_by s t e
+-- what is read: a fault, or the meter in a whole image
+pub fault_read : (s : List ℕ) {t : Status} → t ≡ status_of s → read_by t (meter_of s) ≡ read_image s
+fault_read s e = ap (λ (t : Status). read_by t (meter_of s)) e
 
 -- What was written is read: every meter that the struct can hold comes back.
 module _ (m : Meter) (h : meter_part.Holds m) where
@@ -70,13 +65,13 @@ module _ (m : Meter) (h : meter_part.Holds m) where
   unfolding image_of image_size
   length_image = omega (arith, meter_lawful.sized m h)
 
-  pub image_back : read_image (image_of m) ≡ record { status = Whole; meter = m }
+  pub image_back : read_image (image_of m) ≡ Ok m
   unfolding image_of meter_of
   image_back =
       let b = meter_part.bytes m in
       let t : meter_part.taken b ≡ true = rw (append-nil b) at (meter_lawful.passes m h []) in
       let v : meter_part.value b ≡ m = rw (append-nil b) at (meter_lawful.back m h []) in
-      sym (read_by (image_of m) Whole (all_passed (image_of m) length_image refl t)) ∙ ap (λ (x : Meter). record { status = Whole; meter = x }) v
+      ap (λ (u : Status). read_by u (meter_of (image_of m))) (all_passed (image_of m) length_image refl t) ∙ ap (λ (x : Meter). Ok x) v
 
 pub read_back : ReadBack
 read_back m h = image_back m (meter_holds m h)
@@ -87,20 +82,19 @@ pub record Passed (s : List ℕ) : Type 0 where
   pub current : get_or s 0 0 ≡ version
   pub taken : meter_part.taken (drop 1 s) ≡ true
 
-pub passed : (s : List ℕ) → status_of s ≡ Whole → Passed s
+pub passed : (s : List ℕ) → status_of s ≡ whole → Passed s
 unfolding status_of
 passed s e = go (eqb (length s) image_size) (eqb (get_or s 0 0) version) (meter_part.taken (drop 1 s)) refl refl refl e
   where
-    go : (a b c : Bool) → eqb (length s) image_size ≡ a → eqb (get_or s 0 0) version ≡ b → meter_part.taken (drop 1 s) ≡ c → cond a (cond b (cond c Whole NoImage) WrongVersion) WrongLength ≡ Whole → Passed s
+    go : (a b c : Bool) → eqb (length s) image_size ≡ a → eqb (get_or s 0 0) version ≡ b → meter_part.taken (drop 1 s) ≡ c → cond a (cond b (cond c whole (Err NoImage)) (Err WrongVersion)) (Err WrongLength) ≡ whole → Passed s
     go true true true p q r e = record { long = eqb-true _ _ p; current = eqb-true _ _ q; taken = r }
-    go true true false p q r e = absurd (let z : ◌≡◌ {A = ℕ} 0 1 = cc in omega arith)
-    go true false c p q r e = absurd (let z : ◌≡◌ {A = ℕ} 0 1 = cc in omega arith)
-    go false b c p q r e = absurd (let z : ◌≡◌ {A = ℕ} 0 1 = cc in omega arith)
+    go true true false p q r e = cc
+    go true false c p q r e = cc
+    go false b c p q r e = cc
 
 -- a whole image is read
-pub whole_read : (s : List ℕ) {m : Meter} → status_of s ≡ Whole → m ≡ meter_in s → record { status = Whole; meter = m } ≡ read_image s
-whole_read s e g =
-    ap (λ (x : Meter). record { status = Whole; meter = x }) (g ∙ in_meter s (passed s e).long) ∙ read_by s Whole e
+pub whole_read : (s : List ℕ) {m : Meter} → status_of s ≡ whole → m ≡ meter_in s → Ok m ≡ read_image s
+whole_read s e g = ap (λ (x : Meter). Ok x) (g ∙ in_meter s (passed s e).long) ∙ fault_read s (sym e)
 
 -- What was read is written: every image that is read comes back, byte for byte.
 pub written_back : WrittenBack

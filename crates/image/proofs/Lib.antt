@@ -1,6 +1,5 @@
 pub mod CodecLaws
 pub mod LoopLaws
-pub mod Sizes
 pub mod LayoutLaws
 pub mod TakenLaws
 pub mod HoldableLaws

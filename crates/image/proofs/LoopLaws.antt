@@ -1,13 +1,18 @@
--- The loops over an array's elements: reading each, testing the bytes of each. Over any part.
-use mathlib.Core.Path.{◌≡◌, refl, sym, ap, ap₂, ◌∙◌}
-use mathlib.Core.Bool.{Bool, true, false, ◌&&◌}
-use mathlib.Core.List.{List, [], ◌∷◌, ◌++◌}
+-- As many parts as are asked for, one after the other: read into an array, and their bytes tested. Over any part.
+use mathlib.Core.Path.{◌≡◌, refl, sym, subst, ap, ap₂, ◌∙◌}
+use mathlib.Core.Bool.{Bool, true, false, ◌&&◌, and-false}
+use mathlib.Core.List.{List, []}
 use Prim.Native.Nat.{ℕ, zero, suc, ◌+◌, ◌*◌, ◌≤◌, ◌<◌}
-use native.Mathlib.Nat.{zero-mul, suc-mul, mul-le-mul_right}
-use native.Mathlib.Numerals.{add-one}
+use native.Mathlib.Nat.{zero-mul, suc-mul, mul-le-mul_right, add-zero, zero-add}
 use native.Mathlib.Omega.{arith}
-use lib.ListN.{length, take, drop, set, length-set}
-use lib.Seq.{take-suc-set, take_all, drop-drop}
+use lib.ListN.{length, take, drop, get_or}
+use lib.Seq.{take_all, drop-drop, length-take-le}
+use Rattle.std.specs.Fn.{Mut, Called}
+use Rattle.std.specs.Array.{IsFromFnResult, IsFromFnResultFrom}
+use Rattle.std.specs.Bool.{MatchBool}
+use Rattle.std.specs.List.{range_with_len, AllWithin, HoldsAt}
+use Rattle.std.proofs.lemmas.List.{ext_get_or, get_or-take}
+use Rattle.std.proofs.lemmas.List.FromFn.{length-range_with_len, get_or-range_with_len}
 use Rattle.image.specs.Codec.{Codec, values, all_taken, many, Got}
 use Rattle.image.specs.Lists.{Firsts}
 
@@ -15,108 +20,92 @@ use Rattle.image.specs.Lists.{Firsts}
 pub room_more : (i n z at : ℕ) {l : ℕ} → i < n → at + n * z ≤ l → at + i * z + z ≤ l
 room_more i n z at j h = omega (arith, suc-mul i z, mul-le-mul_right {m = suc i} {n = n} z (omega arith))
 
--- where element i stands, and the next
-next_place : (i z at : ℕ) {k : ℕ} → k ≡ at + i * z → k + z ≡ at + (i + 1) * z
-next_place i z at e = rw (add-one i, suc-mul i z, e) (omega arith)
+-- an array that was made place by place, by a closure that stays as it is: what a call gives holds of each place
+module _ {F B : Type 0} (g : Mut F (ℕ × Unit {0}) B) {f : F} (P : ℕ → B → Type 0) (call : (i : ℕ) (y : B) (q : F) → Called g f (i, tt) y q → (q ≡ f) × P i y) (ys : List B) (d : B) where
+  from_call : (i n : ℕ) → IsFromFnResultFrom g f ys i n → (j : ℕ) → j < n → P (i + j) (get_or ys (i + j) d)
+  from_call i zero w j h = absurd (omega arith)
+  from_call i (suc n) (q, y, el, c, rest) zero h =
+      rw (add-zero i) (subst (P i) (sym (el.1 d)) (call i y q c).1)
+  from_call i (suc n) (q, y, el, c, rest) (suc j) h =
+      let next : i + 1 + j ≡ i + suc j = omega arith in
+      subst (λ (k : ℕ). P k (get_or ys k d)) next
+      (from_call (i + 1) n (subst (λ (p : F). IsFromFnResultFrom g p ys (i + 1) n) (call i y q c).0 rest) j (omega arith))
 
--- Of n elements that are read into so many places the first i are read; the next stands at k.
-pub record Getting {A : Type 0} (c : Codec A) (places n : ℕ) (s : List ℕ) (at : ℕ) (out : List A) (k i : ℕ) : Type 0 where
-  pub below : i ≤ n
-  pub fits : n ≤ places
-  pub full : length out ≡ places
-  pub room : at + n * c.size ≤ length s
-  pub place : k ≡ at + i * c.size
-  pub done : take i out ≡ values c i (drop at s)
+  pub from_calls : {n : ℕ} → IsFromFnResult g f ys n → (i : ℕ) → i < n → P i (get_or ys i d)
+  from_calls {n} r i h = subst (λ (k : ℕ). P k (get_or ys k d)) (zero-add i) (from_call 0 n r.each i h)
 
--- one more, at its place
-values_last : {A : Type 0} (c : Codec A) (n : ℕ) (s : List ℕ) → values c (suc n) s ≡ values c n s ++ (c.value (drop (n * c.size) s) ∷ [])
+-- element i of an array
+pub value_at_lem : {A : Type 0} (c : Codec A) (n : ℕ) (s : List ℕ) (i : ℕ) (d : A) → i < n → get_or (values c n s) i d ≡ c.value (drop (i * c.size) s)
 unfolding values
-values_last c zero s = rw (zero-mul c.size)
-values_last c (suc n) s =
+value_at_lem c zero s i d h = absurd (omega arith)
+value_at_lem c (suc n) s zero d h = rw (zero-mul c.size)
+value_at_lem c (suc n) s (suc i) d h =
     let z = c.size in
-    let j : z + n * z ≡ suc n * z = omega (arith, suc-mul n z) in
-    ap (◌∷◌ (c.value s)) (values_last c n (drop z s) ∙ ap (λ (t : List ℕ). values c n (drop z s) ++ (c.value t ∷ [])) (drop-drop (n * z) z s ∙ ap (λ (k : ℕ). drop k s) j))
+    let j : z + i * z ≡ suc i * z = omega (arith, suc-mul i z) in
+    value_at_lem c n (drop z s) i d (omega arith) ∙ ap c.value (drop-drop (i * z) z s ∙ ap (λ (k : ℕ). drop k s) j)
 
-module _ {A : Type 0} {c : Codec A} {places n : ℕ} {s : List ℕ} {at : ℕ} {out : List A} where
-  pub getting_none : length out ≡ places → n ≤ places → at + n * c.size ≤ length s → Getting c places n s at out at 0
-  unfolding values
-  getting_none e f h =
-      record { below = omega arith; fits = f; full = e; room = h; place = rw (zero-mul c.size) (omega arith); done = refl }
+-- as many as are counted
+pub length_values : {A : Type 0} (c : Codec A) (n : ℕ) (s : List ℕ) → length (values c n s) ≡ n
+unfolding values
+length_values c zero s = refl
+length_values c (suc n) s = ap suc (length_values c n (drop c.size s))
 
-  module _ {k i : ℕ} (p : Getting c places n s at out k i) where
-    pub getting_room : i < n → k + c.size ≤ length s
-    getting_room h = omega (arith, p.place, room_more i n c.size at h p.room)
-
-    pub getting_more : {x : A} (z : ℕ) → c.size ≡ z → i < n → Got c s k x → Getting c places n s at (set out i x) (k + z) (i + 1)
-    getting_more {x} z q h g =
-        let o : i < length out = omega (arith, p.full, p.fits) in
-        let v : values c (suc i) (drop at s) ≡ values c i (drop at s) ++ (x ∷ []) =
-        values_last c i (drop at s)
-        ∙ ap (λ (t : A). values c i (drop at s) ++ (t ∷ [])) (ap c.value (drop-drop (i * c.size) at s ∙ ap (λ (j : ℕ). drop j s) (sym p.place)) ∙ sym g.is) in
-        record {
-          below = omega arith;
-          fits = p.fits;
-          full = length-set out i x ∙ p.full;
-          room = p.room;
-          place = rw (sym q) (next_place i c.size at p.place);
-          done = rw add-one (take-suc-set out i x o ∙ ap (λ (t : List A). t ++ (x ∷ [])) p.done ∙ sym v);
-        }
-
-    pub getting_firsts : n ≤ i → Firsts c places n s at out
-    getting_firsts h =
-        let j : i ≡ n = omega (arith, p.below) in
-        record { full = p.full; are = rw j at p.done }
+-- an array whose first places were read, each at its place
+pub firsts_by : {A : Type 0} {c : Codec A} {places n z : ℕ} {s : List ℕ} {at : ℕ} {xs : List A} → c.size ≡ z → length xs ≡ places → n ≤ places
+    → ((i : ℕ) → i < n → Got c s (at + i * z) (get_or xs i (c.value [])))
+    → Firsts c places n s at xs
+firsts_by {c = c} {n = n} {z = z} {s = s} {at = at} {xs = xs} q full fits got =
+    let d = c.value [] in
+    let long : length (take n xs) ≡ n = length-take-le n xs (omega arith) in
+    record {
+      full = full;
+      are = ext_get_or d (take n xs) (values c n (drop at s)) (long ∙ sym (length_values c n (drop at s)))
+          (λ i h.
+          get_or-take n xs i d (omega (arith, long))
+          ∙ (got i (omega (arith, long))).is
+          ∙ ap c.value (ap (λ (k : ℕ). drop (at + i * k) s) (sym q) ∙ sym (drop-drop (i * c.size) at s))
+          ∙ sym (value_at_lem c n (drop at s) i d (omega (arith, long))));
+    }
 
 -- where every place is read
 pub firsts_all : {A : Type 0} {c : Codec A} {n : ℕ} {s : List ℕ} {at : ℕ} {xs : List A} → Firsts c n n s at xs → Got (many n c) s at xs
 firsts_all {n = n} {xs = xs} f = record { is = sym (take_all n xs (omega (arith, f.full))) ∙ f.are }
 
--- The bytes of the first i elements are taken, and what is left decides; the next stands at k.
-pub record Testing {A : Type 0} (c : Codec A) (n : ℕ) (s : List ℕ) (at k i : ℕ) : Type 0 where
-  pub left : ℕ
-  pub total : i + left ≡ n
-  pub room : at + n * c.size ≤ length s
-  pub place : k ≡ at + i * c.size
-  pub rest : all_taken c n (drop at s) ≡ all_taken c left (drop k s)
+-- whether all are taken, by the first that is not
+module _ {A : Type 0} (c : Codec A) where
+  pub each_taken_lem : (n : ℕ) (s : List ℕ) → ((i : ℕ) → i < n → c.taken (drop (i * c.size) s) ≡ true) → all_taken c n s ≡ true
+  unfolding all_taken
+  each_taken_lem zero s h = refl
+  each_taken_lem (suc n) s h =
+      ap₂ ◌&&◌ (rw (zero-mul c.size) at (h 0 (omega arith)))
+      (each_taken_lem n (drop c.size s) (λ i j. ap c.taken (drop-drop (i * c.size) c.size s ∙ ap (λ (k : ℕ). drop k s) (omega (arith, suc-mul i c.size))) ∙ h (suc i) (omega arith)))
 
-module _ {A : Type 0} {c : Codec A} {n : ℕ} {s : List ℕ} {at : ℕ} where
-  pub testing_none : at + n * c.size ≤ length s → Testing c n s at at 0
-  testing_none h = record { left = n; total = omega arith; room = h; place = rw (zero-mul c.size) (omega arith); rest = refl }
+  pub one_fails : (n : ℕ) (s : List ℕ) (i : ℕ) → i < n → c.taken (drop (i * c.size) s) ≡ false → all_taken c n s ≡ false
+  unfolding all_taken
+  one_fails zero s i h e = absurd (omega arith)
+  one_fails (suc n) s zero h e = ap (λ (b : Bool). b && all_taken c n (drop c.size s)) (rw (zero-mul c.size) at e)
+  one_fails (suc n) s (suc i) h e =
+      ap (λ (b : Bool). c.taken s && b)
+      (one_fails n (drop c.size s) i (omega arith) (ap c.taken (drop-drop (i * c.size) c.size s ∙ ap (λ (k : ℕ). drop k s) (omega (arith, suc-mul i c.size))) ∙ e))
+      ∙ and-false (c.taken s)
 
-  module _ {k i : ℕ} (p : Testing c n s at k i) where
-    pub testing_room : i < n → k + c.size ≤ length s
-    testing_room h = omega (arith, p.place, room_more i n c.size at h p.room)
+  -- by a test of each in turn
+  pub taken_by : (n at : ℕ) {z : ℕ} (s : List ℕ) {r : Bool} → c.size ≡ z
+      → MatchBool r (AllWithin (λ (i : ℕ). c.taken (drop (at + i * z) s) ≡ true) (range_with_len 0 n) 0 (length (range_with_len 0 n)))
+      ((k : ℕ) × (k < length (range_with_len 0 n)) × HoldsAt (λ (i : ℕ). c.taken (drop (at + i * z) s) ≡ false) (range_with_len 0 n) k)
+      → r ≡ all_taken c n (drop at s)
+  taken_by n at {z} s {r} q = go r
+    where
+      place : (i : ℕ) → i < n → c.taken (drop (i * c.size) (drop at s)) ≡ c.taken (drop (at + get_or (range_with_len 0 n) i 0 * z) s)
+      place i h =
+          ap c.taken (drop-drop (i * c.size) at s ∙ ap₂ (λ (j k : ℕ). drop (at + j * k) s) (sym (get_or-range_with_len 0 n i 0 h ∙ zero-add i)) q)
 
-    pub testing_fails : i < n → c.taken (drop k s) ≡ false → false ≡ all_taken c n (drop at s)
-    unfolding all_taken
-    testing_fails h e = go p.left p.total p.rest
-      where
-        go : (left : ℕ) → i + left ≡ n → all_taken c n (drop at s) ≡ all_taken c left (drop k s) → false ≡ all_taken c n (drop at s)
-        go zero t r = absurd (omega arith)
-        go (suc j) t r = sym (r ∙ ap (λ (b : Bool). b && all_taken c j (drop c.size (drop k s))) e)
-
-    pub testing_more : (z : ℕ) → c.size ≡ z → i < n → c.taken (drop k s) ≡ true → Testing c n s at (k + z) (i + 1)
-    unfolding all_taken
-    testing_more z q h e = go p.left p.total p.rest
-      where
-        go : (left : ℕ) → i + left ≡ n → all_taken c n (drop at s) ≡ all_taken c left (drop k s) → Testing c n s at (k + z) (i + 1)
-        go zero t r = absurd (omega arith)
-        go (suc j) t r =
-            record {
-              left = j;
-              total = omega arith;
-              room = p.room;
-              place = rw (sym q) (next_place i c.size at p.place);
-              rest = r ∙ ap (λ (b : Bool). b && all_taken c j (drop c.size (drop k s))) e ∙ ap (all_taken c j) (drop-drop c.size k s ∙ ap (λ (d : ℕ). drop (k + d) s) q);
-            }
-
-    pub testing_all : n ≤ i → true ≡ all_taken c n (drop at s)
-    unfolding all_taken
-    testing_all h = go p.left p.total p.rest
-      where
-        go : (left : ℕ) → i + left ≡ n → all_taken c n (drop at s) ≡ all_taken c left (drop k s) → true ≡ all_taken c n (drop at s)
-        go zero t r = sym r
-        go (suc j) t r = absurd (omega arith)
+      go : (r : Bool)
+          → MatchBool r (AllWithin (λ (i : ℕ). c.taken (drop (at + i * z) s) ≡ true) (range_with_len 0 n) 0 (length (range_with_len 0 n)))
+          ((k : ℕ) × (k < length (range_with_len 0 n)) × HoldsAt (λ (i : ℕ). c.taken (drop (at + i * z) s) ≡ false) (range_with_len 0 n) k)
+          → r ≡ all_taken c n (drop at s)
+      go true w = sym (each_taken_lem n (drop at s) (λ i h. place i h ∙ w i 0 (omega arith) (omega (arith, length-range_with_len 0 n))))
+      go false (k, h, w) = sym (one_fails n (drop at s) k (omega (arith, length-range_with_len 0 n)) (place k (omega (arith, length-range_with_len 0 n)) ∙ w 0))
 
 -- where each is taken whatever its bytes are
 pub all_taken_lem : {A : Type 0} (c : Codec A) → ((s : List ℕ) → c.taken s ≡ true) → (n : ℕ) (s : List ℕ) → all_taken c n s ≡ true

@@ -1,9 +1,7 @@
 -- The places of the fields, added up from the layout.
 use mathlib.Core.Path.{◌≡◌, refl, subst⁻¹, ap, ◌∙◌}
 use mathlib.Core.List.{List, [], ◌∷◌}
-use Prim.Native.Nat.{ℕ, zero, suc, ◌+◌, ◌*◌, ◌<◌}
-use native.Mathlib.Nat.{zero-mul, suc-mul}
-use native.Mathlib.Omega.{arith}
+use Prim.Native.Nat.{ℕ, ◌+◌, ◌*◌, ◌<◌}
 use lib.ListN.{drop, get_or}
 use lib.Seq.{drop-drop}
 use Rattle.model.specs.Names.{blank_name, blank_register}
@@ -13,6 +11,7 @@ use Rattle.picks.specs.declared.Transfer.{Transfer}
 use Rattle.image.specs.Codec.{Codec, block, byte, fields, flag, number, phase, progress, picking_kind, values, Got}
 use Rattle.image.specs.Layout.{party_part, counters_part, cipher_party_part, line_part, name_part, clock_part, register_part, registers_part, columns_part, row_part, rows_part, picking_part, transfer_part, body_part, meter_part}
 use Rattle.image.specs.Image.{meter_of}
+use Rattle.image.proofs.LoopLaws.{value_at_lem}
 use Rattle.image.specs.Places.{LineAt, BodyAt, RegisterAt, RowAt, TransferAt, Places}
 
 -- from place to place
@@ -37,15 +36,6 @@ within : {A : Type 0} (c : Codec A) (ms : List ℕ) (n p : ℕ) (s : List ℕ) �
 within c ms n p s = record { is = ap c.value (far ms n (drop p s) ∙ drop-drop (sum n ms) p s) }
 
 -- element i of an array
-value_at_lem : {A : Type 0} (c : Codec A) (n : ℕ) (s : List ℕ) (i : ℕ) (d : A) → i < n → get_or (values c n s) i d ≡ c.value (drop (i * c.size) s)
-unfolding values
-value_at_lem c zero s i d h = absurd (omega arith)
-value_at_lem c (suc n) s zero d h = rw (zero-mul c.size)
-value_at_lem c (suc n) s (suc i) d h =
-    let z = c.size in
-    let j : z + i * z ≡ suc i * z = omega (arith, suc-mul i z) in
-    value_at_lem c n (drop z s) i d (omega arith) ∙ ap c.value (drop-drop (i * z) z s ∙ ap (λ (k : ℕ). drop k s) j)
-
 item : {A : Type 0} (c : Codec A) (count : ℕ) (ms : List ℕ) (n : ℕ) (s : List ℕ) (i : ℕ) (d : A) → i < count → Got c s (sum n ms + i * c.size) (get_or (values c count (onward ms (drop n s))) i d)
 item c count ms n s i d h =
     record {

@@ -2,5 +2,6 @@
 pub mod Codec
 pub mod Layout
 pub mod Image
+pub mod Sizes
 pub mod Places
 pub mod Lists

@@ -1,98 +1,113 @@
 // Whether bytes are taken for a part: its flags are 0 or 1; its phases, progress and kind of a transfer are at most 2. Any
 // other byte is taken as it is.
-ghost use Rattle.std.specs.Prelude.{◌≡◌, ◌+◌, ◌≤◌, drop, length};
-ghost use Rattle.image.specs.Codec.{below_three, flag, many};
-ghost use Rattle.image.specs.Layout.{body_part, line_part, meter_part, party_part, register_part, transfer_part};
+ghost use Rattle.std.specs.Prelude.{◌≡◌, ◌+◌, ◌*◌, ◌<◌, ◌≤◌, drop, length};
+ghost use Rattle.image.specs.Codec.{below_three, many};
 
-use crate::read::{CIPHER_PARTY, LINE, NAME, PARTY, REGISTER};
+use crate::part::Part;
+use body::BodyState;
+use line::{CipherParty, LineState, Party, Phase};
+use meter::Meter;
+use model::{Name, Register};
+use picks::{PickingKind, Progress, Transfer};
 
 // How far into the body the first register stands, and the transfer.
 const FIRST_REGISTER: usize = 42;
 
 const TRANSFER: usize = 1652;
 
-pub fn meter_taken(s: &[u8], at: usize) -> bool
-    requires { at + meter_part.size ≤ length s.now }
-    ensures { result ≡ meter_part.taken (drop at s.now) }
-{
-    if !line_taken(s, at) {
-        return false;
-    }
-    body_taken(s, at + LINE)
+// A part of which some bytes are not taken.
+pub trait Tested: Part {
+    fn is_taken(s: &[u8], at: usize) -> bool
+        requires { at + Self.SIZE ≤ length s.now }
+        ensures { result ≡ Self.part.taken (drop at s.now) };
 }
 
-fn line_taken(s: &[u8], at: usize) -> bool
-    requires { at + line_part.size ≤ length s.now }
-    ensures { result ≡ line_part.taken (drop at s.now) }
-{
-    let a = at + 8;
-    if !party_taken(s, a) {
-        return false;
+impl Tested for Meter {
+    fn is_taken(s: &[u8], at: usize) -> bool {
+        LineState::is_taken(s, at) && BodyState::is_taken(s, at + LineState::SIZE)
     }
-    let b = a + PARTY;
-    if !party_taken(s, b) {
-        return false;
-    }
-    flag_taken(s, b + CIPHER_PARTY)
 }
 
-fn party_taken(s: &[u8], at: usize) -> bool
-    requires { at + party_part.size ≤ length s.now }
-    ensures { result ≡ party_part.taken (drop at s.now) }
-{
-    let a = at + 8;
-    if !flag_taken(s, a) {
-        return false;
+impl Tested for LineState {
+    fn is_taken(s: &[u8], at: usize) -> bool {
+        let a = at + 8;
+        let b = a + Party::SIZE;
+        Party::is_taken(s, a)
+            && CipherParty::is_taken(s, b)
+            && bool::is_taken(s, b + CipherParty::SIZE)
     }
-    below_three(s, a + 1)
 }
 
-fn body_taken(s: &[u8], at: usize) -> bool
-    requires { at + body_part.size ≤ length s.now }
-    ensures { result ≡ body_part.taken (drop at s.now) }
-{
-    if !each_register_taken(s, at + FIRST_REGISTER, 16) {
-        return false;
+impl Tested for CipherParty {
+    fn is_taken(s: &[u8], at: usize) -> bool {
+        Party::is_taken(s, at)
     }
-    transfer_taken(s, at + TRANSFER)
 }
 
-fn transfer_taken(s: &[u8], at: usize) -> bool
-    requires { at + transfer_part.size ≤ length s.now }
-    ensures { result ≡ transfer_part.taken (drop at s.now) }
-{
-    if !below_three(s, at) {
-        return false;
+impl Tested for Party {
+    fn is_taken(s: &[u8], at: usize) -> bool {
+        bool::is_taken(s, at + 8) && Phase::is_taken(s, at + 9)
     }
-    below_three(s, at + 1)
 }
 
-pub fn each_register_taken(s: &[u8], at: usize, count: usize) -> bool
-    requires { at + (many count register_part).size ≤ length s.now }
-    ensures { result ≡ (many count register_part).taken (drop at s.now) }
-{
-    let mut k = at;
-    let mut i: usize = 0;
-    while i < count {
-        if !flag_taken(s, k + NAME) {
-            return false;
-        }
-        k += REGISTER;
-        i += 1;
+impl Tested for BodyState {
+    fn is_taken(s: &[u8], at: usize) -> bool {
+        each_taken::<Register>(s, at + FIRST_REGISTER, 16) && Transfer::is_taken(s, at + TRANSFER)
     }
-    true
 }
 
-fn flag_taken(s: &[u8], at: usize) -> bool
-    requires { at + flag.size ≤ length s.now }
-    ensures { result ≡ flag.taken (drop at s.now) }
-{
-    s[at] < 2
+impl Tested for Register {
+    fn is_taken(s: &[u8], at: usize) -> bool {
+        bool::is_taken(s, at + Name::SIZE)
+    }
 }
 
-fn below_three(s: &[u8], at: usize) -> bool
-    requires { at + 1 ≤ length s.now }
+impl Tested for Transfer {
+    fn is_taken(s: &[u8], at: usize) -> bool {
+        Progress::is_taken(s, at) && PickingKind::is_taken(s, at + 1)
+    }
+}
+
+impl Tested for bool {
+    fn is_taken(s: &[u8], at: usize) -> bool {
+        s[at] < 2
+    }
+}
+
+impl Tested for Phase {
+    fn is_taken(s: &[u8], at: usize) -> bool {
+        is_below_three(s, at)
+    }
+}
+
+impl Tested for Progress {
+    fn is_taken(s: &[u8], at: usize) -> bool {
+        is_below_three(s, at)
+    }
+}
+
+impl Tested for PickingKind {
+    fn is_taken(s: &[u8], at: usize) -> bool {
+        is_below_three(s, at)
+    }
+}
+
+fn is_below_three(s: &[u8], at: usize) -> bool
+    requires { at < length s.now }
     ensures { result ≡ below_three (drop at s.now) }
 {
     s[at] < 3
+}
+
+// Whether so many parts, one after the other, are taken.
+pub fn each_taken<T: Tested>(s: &[u8], at: usize, count: usize) -> bool
+    requires { at + count * T.SIZE ≤ length s.now }
+    ensures { result ≡ (many count T.part).taken (drop at s.now) }
+{
+    (0..count).all(
+        |i: usize| -> bool
+            requires { at + i * T.SIZE + T.SIZE ≤ length s.now }
+            ensures { result ≡ T.part.taken (drop (at + i * T.SIZE) s.entry.now) }
+        { T::is_taken(s, at + i * T::SIZE) },
+    )
 }

@@ -5,87 +5,66 @@
 
 mod check;
 mod lists;
+mod part;
 mod read;
 
 ghost use Rattle.std.specs.Prelude.{◌≡◌};
-ghost use Rattle.image.specs.Image.{blank_meter, image_refusal, meter_in, read_image, status_of};
+ghost use Rattle.image.specs.Image.{blank_meter, fault_number, meter_in, read_image, status_of};
 
+use check::Tested;
 pub use lists::{are_names, are_registers, names_in, registers_in};
 use meter::Meter;
-pub use read::{CLOCK, NAME, REGISTER};
+pub use part::Part;
 
 // How many bytes an image has, and the first of them.
 pub const SIZE: usize = 1766;
 
 pub const VERSION: u8 = 2;
 
-// The numbers by which a call refuses bytes that are no whole image.
-pub const WRONG_LENGTH: u8 = 101;
-
-pub const WRONG_VERSION: u8 = 102;
-
-// Document 01's number for a state that is not sound: a byte that no meter has.
-pub const NOT_SOUND: u8 = 3;
-
-// What reading answers beside the meter, by the first test that the bytes fail.
-#[derive(Clone, Copy)]
-pub enum Status {
-    Whole,
+// Why bytes are no whole image, by the first test that they fail.
+#[derive(Clone, Copy, PartialEq, Eq)]
+pub enum ImageFault {
     WrongLength,
     WrongVersion,
     // a flag that is neither 0 nor 1; a phase, a transfer's progress or its kind above 2
     NoImage,
 }
 
-// What was read: a meter where the image is whole, and else a blank one.
-#[derive(Clone, Copy)]
-pub struct ImageRead {
-    pub status: Status,
-    pub meter: Meter,
+impl ImageFault {
+    // The number by which a call refuses such bytes. Document 01 knows the last alone: a state that is not sound.
+    pub fn number(self) -> u8
+        ensures { result ≡ fault_number self }
+    {
+        match self {
+            ImageFault::WrongLength => 101,
+            ImageFault::WrongVersion => 102,
+            ImageFault::NoImage => 3,
+        }
+    }
 }
 
 // Reads a meter from its image.
-pub fn read_image(s: &[u8]) -> ImageRead
+pub fn read_image(s: &[u8]) -> Result<Meter, ImageFault>
     ensures { result ≡ read_image s.now }
 {
-    let status = status_of(s);
-    match status {
-        Status::Whole => ImageRead {
-            status: Status::Whole,
-            meter: meter_in(s),
-        },
-        Status::WrongLength => not_read(Status::WrongLength),
-        Status::WrongVersion => not_read(Status::WrongVersion),
-        Status::NoImage => not_read(Status::NoImage),
-    }
+    status_of(s)?;
+    Ok(meter_in(s))
 }
 
-// What bytes come to as an image: whole, or the first test that they fail.
-pub fn status_of(s: &[u8]) -> Status
+// What bytes come to as an image.
+pub fn status_of(s: &[u8]) -> Result<(), ImageFault>
     ensures { result ≡ status_of s.now }
 {
     if s.len() != SIZE {
-        return Status::WrongLength;
+        return Err(ImageFault::WrongLength);
     }
     if s[0] != VERSION {
-        return Status::WrongVersion;
+        return Err(ImageFault::WrongVersion);
     }
-    if !check::meter_taken(s, 1) {
-        return Status::NoImage;
+    if !Meter::is_taken(s, 1) {
+        return Err(ImageFault::NoImage);
     }
-    Status::Whole
-}
-
-// The number by which a call refuses bytes of this status; 0 where they are a whole image.
-pub fn refusal_of(status: Status) -> u8
-    ensures { result ≡ image_refusal status }
-{
-    match status {
-        Status::Whole => 0,
-        Status::WrongLength => WRONG_LENGTH,
-        Status::WrongVersion => WRONG_VERSION,
-        Status::NoImage => NOT_SOUND,
-    }
+    Ok(())
 }
 
 // The meter in an image, for who knows that it is whole; a blank one where the bytes have another length than an image.
@@ -95,19 +74,11 @@ pub fn meter_in(s: &[u8]) -> Meter
     if s.len() != SIZE {
         return blank_meter();
     }
-    read::meter_at(s, 1)
-}
-
-fn not_read(status: Status) -> ImageRead
-    ensures { (result.status ≡ status) × (result.meter ≡ blank_meter) }
-{
-    let meter = blank_meter();
-    ImageRead { status, meter }
+    Meter::read(s, 1)
 }
 
 fn blank_meter() -> Meter
     ensures { result ≡ blank_meter }
 {
-    let zeros = [0u8; SIZE - 1];
-    read::meter_at(&zeros, 0)
+    Meter::read(&[0; SIZE - 1], 0)
 }

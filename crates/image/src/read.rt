@@ -1,420 +1,481 @@
-// Readers: each reads a part of an image at a place where there are bytes enough for it.
-ghost use Rattle.std.specs.Prelude.{◌+◌, ◌≤◌, length};
-ghost use Rattle.image.specs.Codec.{byte, flag, Got, many, number, phase, picking_kind, progress};
-ghost use Rattle.image.specs.Lists.{Firsts};
+// The parts of a meter, read: of each its layout, how many bytes it takes, and its fields, each at its place.
+ghost use Rattle.std.specs.Prelude.{◌≡◌, refl};
+ghost use Rattle.image.specs.Codec.{byte, flag, Got, number, phase, picking_kind, progress, which};
 ghost use Rattle.image.specs.Layout.{body_part, cipher_party_part, clock_part, columns_part, counters_part, line_part, meter_part, name_part, party_part, picking_part, register_part, registers_part, row_part, rows_part, transfer_part};
+ghost use Rattle.image.specs.Sizes.{sizes};
 
+use crate::part::{Part, each_at};
 use body::BodyState;
 use line::{CipherParty, LineState, Party, Phase};
 use meter::Meter;
 use model::{Clock, Counters, Name, Register};
 use picks::{Picking, PickingKind, Progress, Transfer};
 use store::{Columns, Registers, Row, Rows};
-use wire::Field;
 
-// How many bytes the parts take.
-pub const PARTY: usize = 13;
+impl Part for Meter {
+    ghost part = { meter_part };
 
-pub const CIPHER_PARTY: usize = 53;
+    ghost SIZE = { 1765 };
 
-pub const LINE: usize = 75;
+    const SIZE: usize = 1765;
 
-pub const NAME: usize = 6;
-
-pub const CLOCK: usize = 12;
-
-pub const REGISTER: usize = 13;
-
-pub const REGISTERS: usize = 216;
-
-pub const COLUMNS: usize = 104;
-
-pub const ROW: usize = 86;
-
-pub const ROWS: usize = 1298;
-
-pub const PICKING: usize = 33;
-
-pub fn meter_at(s: &[u8], at: usize) -> Meter
-    requires { at + meter_part.size ≤ length s.now }
-    ensures { Got meter_part s.now at result }
-{
-    let line = line_at(s, at);
-    let body = body_at(s, at + LINE);
-    Meter { line, body }
-}
-
-fn line_at(s: &[u8], at: usize) -> LineState
-    requires { at + line_part.size ≤ length s.now }
-    ensures { Got line_part s.now at result }
-{
-    let title = wire::eight_at(s, at);
-    let a = at + 8;
-    let verification = party_at(s, a);
-    let b = a + PARTY;
-    let han = cipher_party_at(s, b);
-    let p5 = flag_at(s, b + CIPHER_PARTY);
-    LineState {
-        title,
-        verification,
-        han,
-        p5,
+    fn read(s: &[u8], at: usize) -> Meter {
+        let line = LineState::read(s, at);
+        let body = BodyState::read(s, at + LineState::SIZE);
+        Meter { line, body }
     }
+
+    ghost sized = { sizes.meter_size };
 }
 
-fn party_at(s: &[u8], at: usize) -> Party
-    requires { at + party_part.size ≤ length s.now }
-    ensures { Got party_part s.now at result }
-{
-    let title = wire::eight_at(s, at);
-    let a = at + 8;
-    let up = flag_at(s, a);
-    let b = a + 1;
-    let phase = phase_at(s, b);
-    let agreed = wire::three_at(s, b + 1);
-    Party {
-        title,
-        up,
-        phase,
-        agreed,
+impl Part for LineState {
+    ghost part = { line_part };
+
+    ghost SIZE = { 75 };
+
+    const SIZE: usize = 75;
+
+    fn read(s: &[u8], at: usize) -> LineState {
+        let title = wire::array_at(s, at);
+        let a = at + 8;
+        let verification = Party::read(s, a);
+        let b = a + Party::SIZE;
+        let han = CipherParty::read(s, b);
+        let p5 = bool::read(s, b + CipherParty::SIZE);
+        LineState {
+            title,
+            verification,
+            han,
+            p5,
+        }
     }
+
+    ghost sized = { sizes.line_size };
 }
 
-fn cipher_party_at(s: &[u8], at: usize) -> CipherParty
-    requires { at + cipher_party_part.size ≤ length s.now }
-    ensures { Got cipher_party_part s.now at result }
-{
-    let party = party_at(s, at);
-    let a = at + PARTY;
-    let key = wire::sixteen_at(s, a);
-    let b = a + 16;
-    let client = wire::eight_at(s, b);
-    let c = b + 8;
-    let meter = wire::eight_at(s, c);
-    let counters = counters_at(s, c + 8);
-    CipherParty {
-        party,
-        key,
-        client,
-        meter,
-        counters,
+impl Part for Party {
+    ghost part = { party_part };
+
+    ghost SIZE = { 13 };
+
+    const SIZE: usize = 13;
+
+    fn read(s: &[u8], at: usize) -> Party {
+        let title = wire::array_at(s, at);
+        let a = at + 8;
+        let up = bool::read(s, a);
+        let b = a + 1;
+        let phase = Phase::read(s, b);
+        let agreed = wire::array_at(s, b + 1);
+        Party {
+            title,
+            up,
+            phase,
+            agreed,
+        }
     }
+
+    ghost sized = { sizes.party_size };
 }
 
-fn counters_at(s: &[u8], at: usize) -> Counters
-    requires { at + counters_part.size ≤ length s.now }
-    ensures { Got counters_part s.now at result }
-{
-    let accepted = four_at(s, at);
-    let sent = four_at(s, at + 4);
-    Counters { accepted, sent }
-}
+impl Part for CipherParty {
+    ghost part = { cipher_party_part };
 
-fn body_at(s: &[u8], at: usize) -> BodyState
-    requires { at + body_part.size ≤ length s.now }
-    ensures { Got body_part s.now at result }
-{
-    let device = wire::sixteen_at(s, at);
-    let a = at + 16;
-    let clock = clock_at(s, a);
-    let b = a + CLOCK;
-    let period = four_at(s, b);
-    let c = b + 4;
-    let number = two_at(s, c);
-    let d = c + 2;
-    let registers = registers_at(s, d);
-    let e = d + REGISTERS;
-    let columns = columns_at(s, e);
-    let f = e + COLUMNS;
-    let rows = rows_at(s, f);
-    let transfer = transfer_at(s, f + ROWS);
-    BodyState {
-        device,
-        clock,
-        period,
-        number,
-        registers,
-        columns,
-        rows,
-        transfer,
+    ghost SIZE = { 53 };
+
+    const SIZE: usize = 53;
+
+    fn read(s: &[u8], at: usize) -> CipherParty {
+        let party = Party::read(s, at);
+        let a = at + Party::SIZE;
+        let key = wire::array_at(s, a);
+        let b = a + 16;
+        let client = wire::array_at(s, b);
+        let c = b + 8;
+        let meter = wire::array_at(s, c);
+        let counters = Counters::read(s, c + 8);
+        CipherParty {
+            party,
+            key,
+            client,
+            meter,
+            counters,
+        }
     }
+
+    ghost sized = { sizes.cipher_party_size };
 }
 
-fn name_at(s: &[u8], at: usize) -> Name
-    requires { at + name_part.size ≤ length s.now }
-    ensures { Got name_part s.now at result }
-{
-    let bytes = wire::six_at(s, at);
-    Name { bytes }
-}
+impl Part for Counters {
+    ghost part = { counters_part };
 
-fn clock_at(s: &[u8], at: usize) -> Clock
-    requires { at + clock_part.size ≤ length s.now }
-    ensures { Got clock_part s.now at result }
-{
-    let bytes = wire::twelve_at(s, at);
-    Clock { bytes }
-}
+    ghost SIZE = { 8 };
 
-fn registers_at(s: &[u8], at: usize) -> Registers
-    requires { at + registers_part.size ≤ length s.now }
-    ensures { Got registers_part s.now at result }
-{
-    let count = count_at(s, at);
-    let items = each_register_at(s, at + 8, 16);
-    Registers { count, items }
-}
+    const SIZE: usize = 8;
 
-// The first registers of an array, as many as asked for; the others are blank.
-pub fn each_register_at(s: &[u8], at: usize, count: usize) -> [Register; 16]
-    requires { (count ≤ 16) × (at + (many count register_part).size ≤ length s.now) }
-    ensures { Firsts register_part 16 count s.now at result }
-{
-    let blank = Register {
-        name: Name { bytes: [0u8; 6] },
-        readable: false,
-        scaler: 0,
-        unit: 0,
-        value: 0,
-    };
-    let mut out = [blank; 16];
-    let mut k = at;
-    let mut i: usize = 0;
-    while i < count {
-        let next = register_at(s, k);
-        out[i] = next;
-        k += REGISTER;
-        i += 1;
+    fn read(s: &[u8], at: usize) -> Counters {
+        let accepted = u32::read(s, at);
+        let sent = u32::read(s, at + 4);
+        Counters { accepted, sent }
     }
-    out
+
+    ghost sized = { sizes.counters_size };
 }
 
-fn register_at(s: &[u8], at: usize) -> Register
-    requires { at + register_part.size ≤ length s.now }
-    ensures { Got register_part s.now at result }
-{
-    let name = name_at(s, at);
-    let a = at + NAME;
-    let readable = flag_at(s, a);
-    let b = a + 1;
-    let scaler = byte_at(s, b);
-    let c = b + 1;
-    let unit = byte_at(s, c);
-    let value = four_at(s, c + 1);
-    Register {
-        name,
-        readable,
-        scaler,
-        unit,
-        value,
+impl Part for BodyState {
+    ghost part = { body_part };
+
+    ghost SIZE = { 1690 };
+
+    const SIZE: usize = 1690;
+
+    fn read(s: &[u8], at: usize) -> BodyState {
+        let device = wire::array_at(s, at);
+        let a = at + 16;
+        let clock = Clock::read(s, a);
+        let b = a + Clock::SIZE;
+        let period = u32::read(s, b);
+        let c = b + 4;
+        let number = u16::read(s, c);
+        let d = c + 2;
+        let registers = Registers::read(s, d);
+        let e = d + Registers::SIZE;
+        let columns = Columns::read(s, e);
+        let f = e + Columns::SIZE;
+        let rows = Rows::read(s, f);
+        let transfer = Transfer::read(s, f + Rows::SIZE);
+        BodyState {
+            device,
+            clock,
+            period,
+            number,
+            registers,
+            columns,
+            rows,
+            transfer,
+        }
     }
+
+    ghost sized = { sizes.body_size };
 }
 
-fn columns_at(s: &[u8], at: usize) -> Columns
-    requires { at + columns_part.size ≤ length s.now }
-    ensures { Got columns_part s.now at result }
-{
-    let count = count_at(s, at);
-    let items = each_column_at(s, at + 8, 16);
-    Columns { count, items }
-}
+impl Part for Name {
+    ghost part = { name_part };
 
-pub fn each_column_at(s: &[u8], at: usize, count: usize) -> [Name; 16]
-    requires { (count ≤ 16) × (at + (many count name_part).size ≤ length s.now) }
-    ensures { Firsts name_part 16 count s.now at result }
-{
-    let blank = Name { bytes: [0u8; 6] };
-    let mut out = [blank; 16];
-    let mut k = at;
-    let mut i: usize = 0;
-    while i < count {
-        let next = name_at(s, k);
-        out[i] = next;
-        k += NAME;
-        i += 1;
+    ghost SIZE = { 6 };
+
+    const SIZE: usize = 6;
+
+    fn read(s: &[u8], at: usize) -> Name {
+        Name {
+            bytes: wire::array_at(s, at),
+        }
     }
-    out
+
+    ghost sized = { sizes.name_size };
 }
 
-fn rows_at(s: &[u8], at: usize) -> Rows
-    requires { at + rows_part.size ≤ length s.now }
-    ensures { Got rows_part s.now at result }
-{
-    let count = count_at(s, at);
-    let items = each_row_at(s, at + 8);
-    Rows { count, items }
-}
+impl Part for Clock {
+    ghost part = { clock_part };
 
-fn each_row_at(s: &[u8], at: usize) -> [Row; 15]
-    requires { at + (many 15 row_part).size ≤ length s.now }
-    ensures { Got (many 15 row_part) s.now at result }
-{
-    let first = row_at(s, at);
-    let mut out = [first; 15];
-    let mut k = at;
-    let mut i: usize = 0;
-    while i < 15 {
-        let next = row_at(s, k);
-        out[i] = next;
-        k += ROW;
-        i += 1;
+    ghost SIZE = { 12 };
+
+    const SIZE: usize = 12;
+
+    fn read(s: &[u8], at: usize) -> Clock {
+        Clock {
+            bytes: wire::array_at(s, at),
+        }
     }
-    out
+
+    ghost sized = { sizes.clock_size };
 }
 
-fn row_at(s: &[u8], at: usize) -> Row
-    requires { at + row_part.size ≤ length s.now }
-    ensures { Got row_part s.now at result }
-{
-    let number = two_at(s, at);
-    let a = at + 2;
-    let clock = clock_at(s, a);
-    let b = a + CLOCK;
-    let count = count_at(s, b);
-    let cells = cells_at(s, b + 8);
-    Row {
-        number,
-        clock,
-        count,
-        cells,
+impl Part for Registers {
+    ghost part = { registers_part };
+
+    ghost SIZE = { 216 };
+
+    const SIZE: usize = 216;
+
+    fn read(s: &[u8], at: usize) -> Registers {
+        let count = usize::read(s, at);
+        let items = each_at(s, at + 8);
+        Registers { count, items }
     }
+
+    ghost sized = { sizes.registers_size };
 }
 
-fn cells_at(s: &[u8], at: usize) -> [u32; 16]
-    requires { at + (many 16 (number 4)).size ≤ length s.now }
-    ensures { Got (many 16 (number 4)) s.now at result }
-{
-    let mut out = [0u32; 16];
-    let mut k = at;
-    let mut i: usize = 0;
-    while i < 16 {
-        let next = four_at(s, k);
-        out[i] = next;
-        k += 4;
-        i += 1;
+impl Part for Register {
+    ghost part = { register_part };
+
+    ghost SIZE = { 13 };
+
+    const SIZE: usize = 13;
+
+    fn read(s: &[u8], at: usize) -> Register {
+        let name = Name::read(s, at);
+        let a = at + Name::SIZE;
+        let readable = bool::read(s, a);
+        let b = a + 1;
+        let scaler = u8::read(s, b);
+        let c = b + 1;
+        let unit = u8::read(s, c);
+        let value = u32::read(s, c + 1);
+        Register {
+            name,
+            readable,
+            scaler,
+            unit,
+            value,
+        }
     }
-    out
+
+    ghost sized = { sizes.register_size };
 }
 
-fn transfer_at(s: &[u8], at: usize) -> Transfer
-    requires { at + transfer_part.size ≤ length s.now }
-    ensures { Got transfer_part s.now at result }
-{
-    let progress = progress_at(s, at);
-    let a = at + 1;
-    let picking = picking_at(s, a);
-    let block = four_at(s, a + PICKING);
-    Transfer {
-        progress,
-        picking,
-        block,
+impl Part for Columns {
+    ghost part = { columns_part };
+
+    ghost SIZE = { 104 };
+
+    const SIZE: usize = 104;
+
+    fn read(s: &[u8], at: usize) -> Columns {
+        let count = usize::read(s, at);
+        let items = each_at(s, at + 8);
+        Columns { count, items }
     }
+
+    ghost sized = { sizes.columns_size };
 }
 
-fn picking_at(s: &[u8], at: usize) -> Picking
-    requires { at + picking_part.size ≤ length s.now }
-    ensures { Got picking_part s.now at result }
-{
-    let kind = picking_kind_at(s, at);
-    let a = at + 1;
-    let after = clock_at(s, a);
-    let b = a + CLOCK;
-    let until = clock_at(s, b);
-    let c = b + CLOCK;
-    let from = four_at(s, c);
-    let to = four_at(s, c + 4);
-    Picking {
-        kind,
-        after,
-        until,
-        from,
-        to,
+impl Part for Rows {
+    ghost part = { rows_part };
+
+    ghost SIZE = { 1298 };
+
+    const SIZE: usize = 1298;
+
+    fn read(s: &[u8], at: usize) -> Rows {
+        let count = usize::read(s, at);
+        let items = each_at(s, at + 8);
+        Rows { count, items }
     }
+
+    ghost sized = { sizes.rows_size };
 }
 
-fn flag_at(s: &[u8], at: usize) -> bool
-    requires { at + flag.size ≤ length s.now }
-    ensures { Got flag s.now at result }
-{
-    s[at] == 1
-}
+impl Part for Row {
+    ghost part = { row_part };
 
-fn phase_at(s: &[u8], at: usize) -> Phase
-    requires { at + phase.size ≤ length s.now }
-    ensures { Got phase s.now at result }
-{
-    let b = s[at];
-    if b == 0 {
-        return Phase::Idle;
+    ghost SIZE = { 86 };
+
+    const SIZE: usize = 86;
+
+    fn read(s: &[u8], at: usize) -> Row {
+        let number = u16::read(s, at);
+        let a = at + 2;
+        let clock = Clock::read(s, a);
+        let b = a + Clock::SIZE;
+        let count = usize::read(s, b);
+        let cells = each_at(s, b + 8);
+        Row {
+            number,
+            clock,
+            count,
+            cells,
+        }
     }
-    if b == 1 {
-        return Phase::Pending;
+
+    ghost sized = { sizes.row_size };
+}
+
+impl Part for Transfer {
+    ghost part = { transfer_part };
+
+    ghost SIZE = { 38 };
+
+    const SIZE: usize = 38;
+
+    fn read(s: &[u8], at: usize) -> Transfer {
+        let progress = Progress::read(s, at);
+        let a = at + 1;
+        let picking = Picking::read(s, a);
+        let block = u32::read(s, a + Picking::SIZE);
+        Transfer {
+            progress,
+            picking,
+            block,
+        }
     }
-    Phase::Associated
+
+    ghost sized = { sizes.transfer_size };
 }
 
-fn progress_at(s: &[u8], at: usize) -> Progress
-    requires { at + progress.size ≤ length s.now }
-    ensures { Got progress s.now at result }
-{
-    let b = s[at];
-    if b == 0 {
-        return Progress::Idle;
+impl Part for Picking {
+    ghost part = { picking_part };
+
+    ghost SIZE = { 33 };
+
+    const SIZE: usize = 33;
+
+    fn read(s: &[u8], at: usize) -> Picking {
+        let kind = PickingKind::read(s, at);
+        let a = at + 1;
+        let after = Clock::read(s, a);
+        let b = a + Clock::SIZE;
+        let until = Clock::read(s, b);
+        let c = b + Clock::SIZE;
+        let from = u32::read(s, c);
+        let to = u32::read(s, c + 4);
+        Picking {
+            kind,
+            after,
+            until,
+            from,
+            to,
+        }
     }
-    if b == 1 {
-        return Progress::Running;
+
+    ghost sized = { sizes.picking_size };
+}
+
+impl Part for bool {
+    ghost part = { flag };
+
+    ghost SIZE = { 1 };
+
+    const SIZE: usize = 1;
+
+    fn read(s: &[u8], at: usize) -> bool {
+        s[at] == 1
     }
-    Progress::Ended
+
+    ghost sized = { sizes.flag_size };
 }
 
-fn picking_kind_at(s: &[u8], at: usize) -> PickingKind
-    requires { at + picking_kind.size ≤ length s.now }
-    ensures { Got picking_kind s.now at result }
-{
-    let b = s[at];
-    if b == 0 {
-        return PickingKind::Whole;
+impl Part for Phase {
+    ghost part = { phase };
+
+    ghost SIZE = { 1 };
+
+    const SIZE: usize = 1;
+
+    fn read(s: &[u8], at: usize) -> Phase {
+        one_of(s[at], Phase::Idle, Phase::Pending, Phase::Associated)
     }
-    if b == 1 {
-        return PickingKind::Dated;
+
+    ghost sized = { sizes.phase_size };
+}
+
+impl Part for Progress {
+    ghost part = { progress };
+
+    ghost SIZE = { 1 };
+
+    const SIZE: usize = 1;
+
+    fn read(s: &[u8], at: usize) -> Progress {
+        one_of(s[at], Progress::Idle, Progress::Running, Progress::Ended)
     }
-    PickingKind::Numbered
+
+    ghost sized = { sizes.progress_size };
 }
 
-fn byte_at(s: &[u8], at: usize) -> u8
-    requires { at + 1 ≤ length s.now }
-    ensures { Got byte s.now at result }
-{
-    s[at]
+impl Part for PickingKind {
+    ghost part = { picking_kind };
+
+    ghost SIZE = { 1 };
+
+    const SIZE: usize = 1;
+
+    fn read(s: &[u8], at: usize) -> PickingKind {
+        one_of(
+            s[at],
+            PickingKind::Whole,
+            PickingKind::Dated,
+            PickingKind::Numbered,
+        )
+    }
+
+    ghost sized = { sizes.kind_size };
 }
 
-// A number in two or four bytes.
-fn two_at(s: &[u8], at: usize) -> u16
-    requires { at + 2 ≤ length s.now }
-    ensures { Got (number 2) s.now at result }
-{
-    let Field::Found { value, next: _ } = wire::u16_at(s, at) else {
-        return 0;
-    };
-    value as u16
+impl Part for u8 {
+    ghost part = { byte };
+
+    ghost SIZE = { 1 };
+
+    const SIZE: usize = 1;
+
+    fn read(s: &[u8], at: usize) -> u8 {
+        s[at]
+    }
+
+    ghost sized = { refl };
 }
 
-fn four_at(s: &[u8], at: usize) -> u32
-    requires { at + 4 ≤ length s.now }
-    ensures { Got (number 4) s.now at result }
-{
-    let Field::Found { value, next: _ } = wire::u32_at(s, at) else {
-        return 0;
-    };
-    value
+impl Part for u16 {
+    ghost part = { number 2 };
+
+    ghost SIZE = { 2 };
+
+    const SIZE: usize = 2;
+
+    fn read(s: &[u8], at: usize) -> u16 {
+        match wire::number_at::<2>(s, at) {
+            Some((value, _)) => value as u16,
+            None => 0,
+        }
+    }
+
+    ghost sized = { refl };
 }
 
-// A count, a number in eight bytes.
-fn count_at(s: &[u8], at: usize) -> usize
-    requires { at + 8 ≤ length s.now }
-    ensures { Got (number 8) s.now at result }
+impl Part for u32 {
+    ghost part = { number 4 };
+
+    ghost SIZE = { 4 };
+
+    const SIZE: usize = 4;
+
+    fn read(s: &[u8], at: usize) -> u32 {
+        match wire::number_at::<4>(s, at) {
+            Some((value, _)) => value,
+            None => 0,
+        }
+    }
+
+    ghost sized = { refl };
+}
+
+impl Part for usize {
+    ghost part = { number 8 };
+
+    ghost SIZE = { 8 };
+
+    const SIZE: usize = 8;
+
+    fn read(s: &[u8], at: usize) -> usize {
+        let high = u32::read(s, at) as usize;
+        let low = u32::read(s, at + 4) as usize;
+        high * 4294967296 + low
+    }
+
+    ghost sized = { refl };
+}
+
+// One of three, by a byte that is 0, 1 or 2.
+fn one_of<T>(byte: u8, first: T, second: T, third: T) -> T
+where
+    T: Copy,
+    ensures { result ≡ which first second third byte }
 {
-    let high = four_at(s, at) as usize;
-    let low = four_at(s, at + 4) as usize;
-    high * 4294967296 + low
+    match byte {
+        0 => first,
+        1 => second,
+        _ => third,
+    }
 }

@@ -14,9 +14,12 @@ use Rattle.wire.specs.Wrote.{Wrote, WroteArray}
 use Rattle.wire.proofs.NumberLaws.{length_high}
 use Rattle.wire_write.proofs.WroteLaws.{then}
 use Rattle.line.specs.declared.Phase.{Phase}
+use Rattle.line.specs.declared.Phase.TheVariants.{Idle, Pending, Associated}
 use Rattle.picks.specs.declared.Progress.{Progress}
+use Rattle.picks.specs.declared.Progress.TheVariants.{Idle as Resting, Running, Ended}
 use Rattle.picks.specs.declared.PickingKind.{PickingKind}
-use Rattle.image.specs.Codec.{Codec, block, byte, number, flag, flag_byte, phase, phase_byte, progress, progress_byte, picking_kind, kind_byte, ◌&◌, fields}
+use Rattle.picks.specs.declared.PickingKind.TheVariants.{Whole, Dated, Numbered}
+use Rattle.image.specs.Codec.{Codec, block, number, flag, flag_byte, phase, phase_byte, progress, progress_byte, picking_kind, kind_byte, ◌&◌, fields}
 use Rattle.image_write.specs.Writing.{Put}
 
 -- A number of eight bytes is written as two of four.
@@ -39,14 +42,32 @@ pub halves : (n : ℕ) {l m p : List ℕ} {at k next : ℕ} → Wrote l at m k (
 halves n {m = m} {p = p} {k = k} {next = next} u v =
     then u (subst (λ (bs : List ℕ). Wrote m k p next bs) (ap reverse (low_mod 4 n)) v)
 
+-- One of three.
+pub data OneOf {A : Type 0} (x y z a : A) : Type 0 where
+  is_first : a ≡ x → OneOf x y z a
+  is_second : a ≡ y → OneOf x y z a
+  is_third : a ≡ z → OneOf x y z a
+
+pub phase_is : (a : Phase) → OneOf Idle Pending Associated a
+phase_is Idle = is_first refl
+phase_is Pending = is_second refl
+phase_is Associated = is_third refl
+
+pub progress_is : (a : Progress) → OneOf Resting Running Ended a
+progress_is Resting = is_first refl
+progress_is Running = is_second refl
+progress_is Ended = is_third refl
+
+pub kind_is : (a : PickingKind) → OneOf Whole Dated Numbered a
+kind_is Whole = is_first refl
+kind_is Dated = is_second refl
+kind_is Numbered = is_third refl
+
 -- Parts that were written.
 
 module _ {l m : List ℕ} {at next : ℕ} where
   pub put_block : {n : ℕ} {x : List ℕ} → WroteArray n l at m next x → Put (block n) x l at m next
   put_block w = record { wrote = w.wrote; sized = w.sized; holds = w.sized }
-
-  pub put_byte : {x : ℕ} → Wrote l at m next (x ∷ []) → Put byte x l at m next
-  put_byte w = record { wrote = w; sized = refl; holds = tt }
 
   pub put_number : (w x : ℕ) → (number w).Holds x → Wrote l at m next (high_first w x) → Put (number w) x l at m next
   put_number w x h u = record { wrote = u; sized = length_high w x; holds = h }

@@ -8,23 +8,20 @@ ghost use Rattle.image_write.specs.Writing.{Writes};
 
 use image::{SIZE, VERSION};
 use meter::Meter;
+use parts::Written;
 
-// What writing answers.
-#[derive(Clone, Copy)]
-pub enum Written {
-    Done,
-    // the buffer has another length than an image, and nothing was written
-    WrongBuffer,
-}
+// The buffer has another length than an image.
+#[derive(Clone, Copy, PartialEq, Eq)]
+pub struct WrongBuffer;
 
-// Writes the image of a meter into a buffer of its size.
-pub fn write_image(meter: Meter, out: &mut [u8]) -> Written
+// Writes the image of a meter into a buffer of its size; into another nothing is written.
+pub fn write_image(meter: Meter, out: &mut [u8]) -> Result<(), WrongBuffer>
     ensures { Writes meter out.old out.new result }
 {
     if out.len() != SIZE {
-        return Written::WrongBuffer;
+        return Err(WrongBuffer);
     }
     let a = wire_write::put(out, 0, VERSION);
-    parts::put_meter(out, a, meter);
-    Written::Done
+    meter.put(out, a);
+    Ok(())
 }

@@ -1,4 +1,4 @@
--- A line that is cleared: what a standing association keeps, that the same is held, and that it is the one line that holds it.
+-- A line that is cleared: that the same is held, and that it is the one line that holds it.
 use mathlib.Core.Path.{◌≡◌, refl}
 use mathlib.Core.List.{List, []}
 use Prim.Native.Nat.{ℕ}
@@ -8,22 +8,7 @@ use Rattle.line.specs.declared.Party.{Party}
 use Rattle.line.specs.declared.CipherParty.{CipherParty}
 use Rattle.line.specs.declared.LineState.{LineState}
 use Rattle.line.specs.View.{peer_of, ciphering_of, line_of}
-use Rattle.line.specs.Canonical.{while_standing, while_pending, cleared_party, cleared_cipher_party, cleared_line, party_with, cipher_party_with, line_with}
-
--- a party that keeps its services is cleared
-pub party_kept : (p : Party) → p.agreed ≡ while_standing p.phase 3 p.agreed → p ≡ cleared_party p
-unfolding cleared_party
-party_kept p e i = record { title = p.title; up = p.up; phase = p.phase; agreed = e i }
-
--- a party that is pending keeps all
-pub pending_kept : (h : CipherParty) → h.party.phase ≡ Pending → h ≡ cleared_cipher_party h
-unfolding cleared_cipher_party
-pending_kept h e =
-    let party = party_kept h.party (rw e) in
-    let key : h.key ≡ while_standing h.party.phase 16 h.key = rw e in
-    let client : h.client ≡ while_pending h.party.phase 8 h.client = rw e in
-    let meter : h.meter ≡ while_pending h.party.phase 8 h.meter = rw e in
-    λ i. record { party = party i; key = key i; client = client i; meter = meter i; counters = h.counters }
+use Rattle.line.specs.Canonical.{cleared_party, cleared_cipher_party, cleared_line, party_with, cipher_party_with, line_with}
 
 -- A client of any phase holds the same once cleared, and is the one that holds it.
 

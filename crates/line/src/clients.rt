@@ -6,23 +6,21 @@ ghost use Rattle.line.specs.Canonical.{agreed_in, client_challenge, key_in, mete
 ghost use Rattle.line.specs.Parties.{party_of, with_cipher};
 ghost use Rattle.line.specs.View.{cipher_of, line_of};
 
-use crate::{CipherParty, LineState, Party, Phase};
+use crate::{CipherParty, LineState, Party, Phase, while_pending, while_standing};
 use model::{CipherClient, Client, Counters};
 
 // Whether the client's link is up.
 pub fn is_up(line: LineState, client: Client) -> bool
     ensures { result ≡ (peer client (line_of line)).up }
 {
-    let p = party_of(line, client);
-    p.up
+    party_of(line, client).up
 }
 
 // The client's title.
 pub fn title_of(line: LineState, client: Client) -> [u8; 8]
     ensures { result ≡ (peer client (line_of line)).title }
 {
-    let p = party_of(line, client);
-    p.title
+    party_of(line, client).title
 }
 
 // The counters of a client that ciphers.
@@ -39,13 +37,7 @@ pub fn client_challenge(line: LineState, client: CipherClient) -> [u8; 8]
     ensures { result ≡ client_challenge (held client (line_of line)) }
 {
     let h = cipher_of(line, client);
-    let p = h.party;
-    let phase = p.phase;
-    match phase {
-        Phase::Idle => [0u8; 8],
-        Phase::Pending => h.client,
-        Phase::Associated => [0u8; 8],
-    }
+    while_pending(h.party.phase, h.client)
 }
 
 // The meter's challenge to the client.
@@ -53,13 +45,7 @@ pub fn meter_challenge(line: LineState, client: CipherClient) -> [u8; 8]
     ensures { result ≡ meter_challenge (held client (line_of line)) }
 {
     let h = cipher_of(line, client);
-    let p = h.party;
-    let phase = p.phase;
-    match phase {
-        Phase::Idle => [0u8; 8],
-        Phase::Pending => h.meter,
-        Phase::Associated => [0u8; 8],
-    }
+    while_pending(h.party.phase, h.meter)
 }
 
 // The services agreed with the client; zeros where it has no association.
@@ -67,12 +53,7 @@ pub fn agreed_in(line: LineState, client: Client) -> [u8; 3]
     ensures { result ≡ agreed_in (peer client (line_of line)).association }
 {
     let p = party_of(line, client);
-    let phase = p.phase;
-    match phase {
-        Phase::Idle => [0u8; 3],
-        Phase::Pending => p.agreed,
-        Phase::Associated => p.agreed,
-    }
+    while_standing(p.phase, p.agreed)
 }
 
 // Whether H is associated, with this service agreed.
@@ -80,23 +61,14 @@ pub fn has_agreed(line: LineState, service: [u8; 3]) -> bool
     ensures { result ≡ has_agreed service (line_of line) }
 {
     let p = line.han.party;
-    let phase = p.phase;
-    let agreed = p.agreed;
-    match phase {
-        Phase::Idle => false,
-        Phase::Pending => false,
-        Phase::Associated => crate::is_within(service, agreed),
-    }
+    p.phase == Phase::Associated && crate::is_within(service, p.agreed)
 }
 
 // Whether H can ask for a read in blocks: GET and block transfer were agreed.
 pub fn takes_blocks(line: LineState) -> bool
     ensures { result ≡ takes_blocks (line_of line) }
 {
-    if !has_agreed(line, [0x00, 0x00, 0x10]) {
-        return false;
-    }
-    has_agreed(line, [0x00, 0x10, 0x00])
+    has_agreed(line, [0x00, 0x00, 0x10]) && has_agreed(line, [0x00, 0x10, 0x00])
 }
 
 // The dedicated key of a client that ciphers; zeros where it has no association.
@@ -104,13 +76,7 @@ pub fn key_in(line: LineState, client: CipherClient) -> [u8; 16]
     ensures { result ≡ key_in (held client (line_of line)) }
 {
     let h = cipher_of(line, client);
-    let p = h.party;
-    let phase = p.phase;
-    match phase {
-        Phase::Idle => [0u8; 16],
-        Phase::Pending => h.key,
-        Phase::Associated => h.key,
-    }
+    while_standing(h.party.phase, h.key)
 }
 
 // The client's party.
@@ -119,9 +85,7 @@ pub fn party_of(line: LineState, client: Client) -> Party
 {
     match client {
         Client::Verification => line.verification,
-        Client::Ciphering(c) => match c {
-            CipherClient::Han => line.han.party,
-        },
+        Client::Ciphering(c) => cipher_of(line, c).party,
     }
 }
 
@@ -138,13 +102,9 @@ pub fn cipher_of(line: LineState, client: CipherClient) -> CipherParty
 pub fn with_verification(line: LineState, verification: Party) -> LineState
     ensures { result ≡ record { title = line.title; verification = verification; han = line.han; p5 = line.p5 } }
 {
-    let title = line.title;
-    let han = line.han;
     LineState {
-        title,
         verification,
-        han,
-        p5: line.p5,
+        ..line
     }
 }
 
@@ -152,14 +112,7 @@ pub fn with_verification(line: LineState, verification: Party) -> LineState
 pub fn with_cipher(line: LineState, client: CipherClient, part: CipherParty) -> LineState
     ensures { result ≡ with_cipher client part line }
 {
-    let title = line.title;
-    let verification = line.verification;
     match client {
-        CipherClient::Han => LineState {
-            title,
-            verification,
-            han: part,
-            p5: line.p5,
-        },
+        CipherClient::Han => LineState { han: part, ..line },
     }
 }

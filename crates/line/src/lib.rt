@@ -7,7 +7,7 @@ mod clients;
 ghost use Rattle.std.specs.Prelude.{◌≡◌, List, ℕ};
 ghost use Rattle.model.specs.Services.{within};
 ghost use Rattle.model.specs.Soundness.{agreed_within, kinds_known, links_stand, on_link, services_offered, line_sound};
-ghost use Rattle.line.specs.Canonical.{cleared_cipher_party, cleared_line, cleared_party};
+ghost use Rattle.line.specs.Canonical.{cleared_cipher_party, cleared_line, cleared_party, while_pending, while_standing};
 ghost use Rattle.line.specs.Left.{Restarted, resting_cipher, resting_party, started_line};
 ghost use Rattle.line.specs.View.{association_of, line_of, new_line, peer_of};
 
@@ -18,14 +18,15 @@ pub use clients::{
 use model::Counters;
 
 // How far an association has come.
-#[derive(Clone, Copy)]
+#[derive(Clone, Copy, PartialEq, Eq)]
 pub enum Phase {
     Idle,
     Pending,
     Associated,
 }
 
-// A client of the link: its title, whether its link is up, its association and the services agreed in it.
+// A client of the link: its title, whether its link is up, its association and the services agreed in it. What an association holds
+// stands beside its phase, and not in it: Wiped of specs/Left says of these fields that nothing is left in them.
 #[derive(Clone, Copy)]
 pub struct Party {
     pub title: [u8; 8],
@@ -57,90 +58,51 @@ pub struct LineState {
 pub fn is_line_sound(line: LineState) -> bool
     ensures { result ≡ line_sound (line_of line) }
 {
-    if !kinds_known(line) {
-        return false;
-    }
-    if !links_stand(line) {
-        return false;
-    }
-    services_offered(line)
+    kinds_known(line) && links_stand(line) && services_offered(line)
 }
 
 // V's association is none or associated; H's may be pending, too.
+#[tactic(auto, unfolding(crate::specs::View::line_of))]
 pub fn kinds_known(line: LineState) -> bool
     ensures { result ≡ kinds_known (line_of line) }
 {
-    let v = line.verification;
-    let phase = v.phase;
-    match phase {
-        Phase::Idle => true,
-        Phase::Pending => false,
-        Phase::Associated => true,
-    }
+    line.verification.phase != Phase::Pending
 }
 
+#[tactic(auto, unfolding(crate::specs::View::line_of))]
 pub fn links_stand(line: LineState) -> bool
     ensures { result ≡ links_stand (line_of line) }
 {
-    let v = line.verification;
-    if !on_link(v) {
-        return false;
-    }
-    let p = line.han.party;
-    on_link(p)
+    on_link(line.verification) && on_link(line.han.party)
 }
 
+#[tactic(auto, unfolding(crate::specs::View::line_of))]
 pub fn services_offered(line: LineState) -> bool
     ensures { result ≡ services_offered (line_of line) }
 {
-    let v = line.verification;
-    if !agreed_within(v, [0x00, 0x00, 0x14]) {
-        return false;
-    }
-    let p = line.han.party;
-    agreed_within(p, [0x00, 0x10, 0x15])
+    agreed_within(line.verification, [0x00, 0x00, 0x14])
+        && agreed_within(line.han.party, [0x00, 0x10, 0x15])
 }
 
 // No association stands on a link that is down.
 fn on_link(p: Party) -> bool
     ensures { (k c s : List ℕ) → result ≡ on_link (peer_of p k c s) }
 {
-    let up = p.up;
-    if up {
-        return true;
-    }
-    let phase = p.phase;
-    match phase {
-        Phase::Idle => true,
-        Phase::Pending => false,
-        Phase::Associated => false,
-    }
+    p.up || p.phase == Phase::Idle
 }
 
 // The agreed services lie within those offered, where an association stands.
 fn agreed_within(p: Party, offered: [u8; 3]) -> bool
     ensures { (k c s : List ℕ) → result ≡ agreed_within offered (association_of p.phase p.agreed k c s) }
 {
-    let phase = p.phase;
-    let agreed = p.agreed;
-    match phase {
-        Phase::Idle => true,
-        Phase::Pending => is_within(agreed, offered),
-        Phase::Associated => is_within(agreed, offered),
-    }
+    p.phase == Phase::Idle || is_within(p.agreed, offered)
 }
 
 // Each bit of the first lies in the second.
 pub fn is_within(a: [u8; 3], o: [u8; 3]) -> bool
     ensures { result ≡ within a o }
 {
-    if a[0] & o[0] != a[0] {
-        return false;
-    }
-    if a[1] & o[1] != a[1] {
-        return false;
-    }
-    a[2] & o[2] == a[2]
+    a[0] & o[0] == a[0] && a[1] & o[1] == a[1] && a[2] & o[2] == a[2]
 }
 
 // A line of these titles, with links down and no associations.
@@ -154,26 +116,27 @@ pub fn new_line(title: [u8; 8], verification: [u8; 8], han: [u8; 8]) -> LineStat
 pub fn powered_up(line: LineState) -> LineState
     ensures { Restarted line result }
 {
-    let title = line.title;
-    let verification = line.verification.title;
-    let han = line.han.party.title;
-    started(title, verification, han, line.p5)
+    started(
+        line.title,
+        line.verification.title,
+        line.han.party.title,
+        line.p5,
+    )
 }
 
 // A line of these titles on which nothing has happened.
+#[tactic(auto, unfolding(crate::specs::Left::started_line))]
 fn started(title: [u8; 8], verification: [u8; 8], han: [u8; 8], p5: bool) -> LineState
     ensures { result ≡ started_line title verification han p5 }
 {
-    let v = resting(verification, false);
     let counters = Counters {
         accepted: 0,
         sent: 0,
     };
-    let h = resting_cipher(han, false, counters);
     LineState {
         title,
-        verification: v,
-        han: h,
+        verification: resting(verification, false),
+        han: resting_cipher(han, false, counters),
         p5,
     }
 }
@@ -194,9 +157,8 @@ pub fn resting(title: [u8; 8], up: bool) -> Party
 pub fn resting_cipher(title: [u8; 8], up: bool, counters: Counters) -> CipherParty
     ensures { result ≡ resting_cipher title up counters }
 {
-    let party = resting(title, up);
     CipherParty {
-        party,
+        party: resting(title, up),
         key: [0u8; 16],
         client: [0u8; 8],
         meter: [0u8; 8],
@@ -205,56 +167,57 @@ pub fn resting_cipher(title: [u8; 8], up: bool, counters: Counters) -> CipherPar
 }
 
 // The line with zeros in the fields of an association that has ended, or is no longer pending.
+#[tactic(auto, unfolding(crate::specs::Canonical::cleared_line))]
 pub fn clear_line(line: LineState) -> LineState
     ensures { result ≡ cleared_line line }
 {
-    let title = line.title;
-    let v = line.verification;
-    let verification = clear_party(v);
-    let h = line.han;
-    let han = clear_cipher_party(h);
     LineState {
-        title,
-        verification,
-        han,
-        p5: line.p5,
+        verification: clear_party(line.verification),
+        han: clear_cipher_party(line.han),
+        ..line
     }
 }
 
+#[tactic(auto, unfolding(crate::specs::Canonical::cleared_party))]
 fn clear_party(party: Party) -> Party
     ensures { result ≡ cleared_party party }
 {
-    let title = party.title;
-    let phase = party.phase;
-    match phase {
-        Phase::Idle => resting(title, party.up),
-        Phase::Pending => party,
-        Phase::Associated => party,
+    Party {
+        agreed: while_standing(party.phase, party.agreed),
+        ..party
     }
 }
 
+#[tactic(auto, unfolding(crate::specs::Canonical::cleared_cipher_party))]
 fn clear_cipher_party(h: CipherParty) -> CipherParty
     ensures { result ≡ cleared_cipher_party h }
 {
-    let p = h.party;
-    let phase = p.phase;
-    let counters = h.counters;
+    let phase = h.party.phase;
+    CipherParty {
+        party: clear_party(h.party),
+        key: while_standing(phase, h.key),
+        client: while_pending(phase, h.client),
+        meter: while_pending(phase, h.meter),
+        ..h
+    }
+}
+
+// Bytes that an association holds while it stands, pending or associated; else zeros.
+fn while_standing<const N: usize>(phase: Phase, bytes: [u8; N]) -> [u8; N]
+    ensures { result ≡ while_standing phase N bytes.entry }
+{
     match phase {
-        Phase::Idle => {
-            let title = p.title;
-            resting_cipher(title, p.up, counters)
-        }
-        Phase::Pending => h,
-        Phase::Associated => {
-            let party = clear_party(p);
-            let key = h.key;
-            CipherParty {
-                party,
-                key,
-                client: [0u8; 8],
-                meter: [0u8; 8],
-                counters,
-            }
-        }
+        Phase::Idle => [0u8; N],
+        Phase::Pending | Phase::Associated => bytes,
+    }
+}
+
+// Bytes that it holds while it is pending; else zeros.
+fn while_pending<const N: usize>(phase: Phase, bytes: [u8; N]) -> [u8; N]
+    ensures { result ≡ while_pending phase N bytes.entry }
+{
+    match phase {
+        Phase::Pending => bytes,
+        Phase::Idle | Phase::Associated => [0u8; N],
     }
 }

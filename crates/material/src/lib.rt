@@ -27,8 +27,8 @@ pub fn nonce(title: [u8; 8], counter: u32) -> [u8; 12]
     ensures { result ≡ nonce_of title counter }
 {
     let mut n = [0u8; 12];
-    let at = wire_write::put_8(&mut n, 0, &title);
-    wire_write::put_u32(&mut n, at, counter);
+    let at = wire_write::put_array(&mut n, 0, &title);
+    wire_write::put_number::<4>(&mut n, at, counter);
     n
 }
 
@@ -39,7 +39,7 @@ pub fn associated_data(keys: ReadyKeys) -> [u8; 17]
     let ak = keys.ak;
     let mut data = [0u8; 17];
     let at = wire_write::put(&mut data, 0, 0x30);
-    wire_write::put_16(&mut data, at, &ak);
+    wire_write::put_array(&mut data, at, &ak);
     data
 }
 
@@ -50,7 +50,7 @@ pub fn proof_data(keys: ReadyKeys, challenge: [u8; 8]) -> [u8; 25]
     let ak = keys.ak;
     let mut data = [0u8; 25];
     let a = wire_write::put(&mut data, 0, 0x10);
-    let b = wire_write::put_16(&mut data, a, &ak);
-    wire_write::put_8(&mut data, b, &challenge);
+    let b = wire_write::put_array(&mut data, a, &ak);
+    wire_write::put_array(&mut data, b, &challenge);
     data
 }

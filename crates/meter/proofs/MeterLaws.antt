@@ -4,6 +4,7 @@ use mathlib.Core.Path.{◌≡◌, refl, sym, ◌∙◌}
 use mathlib.Core.Bool.{Bool, true, false, ◌&&◌, and_assoc, and-true, and-false}
 use mathlib.Core.List.{[]}
 use Prim.Native.Nat.{ℕ}
+use Rattle.std.specs.Prelude.{Some}
 use Rattle.model.specs.declared.Name.{Name}
 use Rattle.model.specs.declared.Clock.{Clock}
 use Rattle.model.specs.Names.{given}
@@ -17,7 +18,6 @@ use Rattle.model.proofs.ListLaws.{both}
 use Rattle.store.specs.declared.Registers.{Registers}
 use Rattle.store.specs.declared.Columns.{Columns}
 use Rattle.store.specs.declared.Rows.{Rows}
-use Rattle.store.specs.declared.Assigned.{Assigned}
 use Rattle.store.specs.Lists.{registers_of, columns_of, entries_of}
 use Rattle.store.specs.Promises.{Assigns}
 use Rattle.picks.specs.declared.Transfer.{Transfer}
@@ -94,10 +94,10 @@ module _ (p : Protocol) (m : Meter) where
   unfolding act view body_of
   value_refused n v h = rw h
 
-  pub value_set : (n : Name) (v : ℕ) (a : Assigned) → Assigns m.body.registers n v a → a.found ≡ true
-      → act p (owner (set_value n v)) (view m) ≡ done (view (with_body_state (with_stores a.registers m.body.columns m.body.rows m.body.transfer m.body) m))
+  pub value_set : (n : Name) (v : ℕ) (s : Registers) → Assigns m.body.registers n v (Some s)
+      → act p (owner (set_value n v)) (view m) ≡ done (view (with_body_state (with_stores s m.body.columns m.body.rows m.body.transfer m.body) m))
   unfolding act view body_of
-  value_set n v a h t = rw (sym h.found ∙ t, h.set t)
+  value_set n v s h = rw (← h.found, h.set)
 
   pub columns_refused : (c : Columns) → accepted_columns (registers_of m.body.registers) (columns_of c) ≡ false → act p (owner (set_columns (columns_of c))) (view m) ≡ refused 18 (view m)
   unfolding act view body_of

@@ -28,7 +28,8 @@ pub struct Meter {
     pub body: BodyState,
 }
 
-// What an owner's call hands back: the number of its refusal, or 0, and the meter.
+// What an owner's call hands back: the number of its refusal, or 0, and the meter. The number stays beside the meter: the form that
+// document 01 names for the owner's calls has both.
 #[derive(Clone, Copy)]
 pub struct Changed {
     pub refusal: u8,
@@ -36,19 +37,13 @@ pub struct Changed {
 }
 
 // Whether a meter is sound.
+#[tactic(auto, using(crate::proofs::MeterLaws::sound_is))]
 pub fn is_sound(meter: Meter) -> bool
     ensures { result ≡ sound (view meter) }
 {
-    let b = meter.body;
-    if !body::is_body_sound(b) {
-        return false;
-    }
-    let l = meter.line;
-    if !line::is_line_sound(l) {
-        return false;
-    }
-    let t = b.transfer;
-    is_allowed(l, t)
+    body::is_body_sound(meter.body)
+        && line::is_line_sound(meter.line)
+        && is_allowed(meter.line, meter.body.transfer)
 }
 
 impl Meter {
@@ -56,37 +51,34 @@ impl Meter {
     pub fn new(device: [u8; 16], title: [u8; 8], verification: [u8; 8], han: [u8; 8]) -> Meter
         ensures { Fresh (new_meter device title verification han) result }
     {
-        let l = line::new_line(title, verification, han);
-        let b = body::new_body(device);
-        let m = Meter { line: l, body: b };
-        m.cleared()
+        let meter = Meter {
+            line: line::new_line(title, verification, han),
+            body: body::new_body(device),
+        };
+        meter.cleared()
     }
 
     // Registers are given anew; columns and rows are emptied, and a transfer that runs is ended. Refusals 3 and 16.
     pub fn give_registers(mut self, registers: [Register; 16], count: usize) -> Changed
         ensures { Owned (OwnerCall.give_registers (held blank_register count registers)) self result }
     {
-        let m = self;
-        if !is_sound(m) {
-            return refused(3, m);
+        if !is_sound(self) {
+            return refused(3, self);
         }
         let given = Registers {
             count,
             items: registers,
         };
         if !store::registers_accepted(given) {
-            return refused(16, m);
+            return refused(16, self);
         }
-        let mut b = m.body;
-        b.registers = given;
-        let columns = body::no_columns();
-        b.columns = columns;
-        let rows = body::no_rows();
-        b.rows = rows;
-        let t = b.transfer;
-        let ended = picks::broken(t);
-        b.transfer = ended;
-        self.body = b;
+        self.body = BodyState {
+            registers: given,
+            columns: body::no_columns(),
+            rows: body::no_rows(),
+            transfer: picks::broken(self.body.transfer),
+            ..self.body
+        };
         done(self)
     }
 
@@ -94,20 +86,16 @@ impl Meter {
     pub fn set_value(mut self, name: Name, value: u32) -> Changed
         ensures { Owned (OwnerCall.set_value name value) self result }
     {
-        let m = self;
-        if !is_sound(m) {
-            return refused(3, m);
+        if !is_sound(self) {
+            return refused(3, self);
         }
-        let mut b = m.body;
-        let registers = b.registers;
-        let a = store::assign(registers, name, value);
-        let found = a.found;
-        if !found {
-            return refused(17, m);
-        }
-        let next = a.registers;
-        b.registers = next;
-        self.body = b;
+        let Some(registers) = store::assign(self.body.registers, name, value) else {
+            return refused(17, self);
+        };
+        self.body = BodyState {
+            registers,
+            ..self.body
+        };
         done(self)
     }
 
@@ -115,26 +103,22 @@ impl Meter {
     pub fn set_columns(mut self, columns: [Name; 16], count: usize) -> Changed
         ensures { Owned (OwnerCall.set_columns (held blank_name count columns)) self result }
     {
-        let m = self;
-        if !is_sound(m) {
-            return refused(3, m);
+        if !is_sound(self) {
+            return refused(3, self);
         }
-        let mut b = m.body;
-        let registers = b.registers;
-        let these = Columns {
+        let columns = Columns {
             count,
             items: columns,
         };
-        if !store::columns_accepted(registers, these) {
-            return refused(18, m);
+        if !store::columns_accepted(self.body.registers, columns) {
+            return refused(18, self);
         }
-        b.columns = these;
-        let rows = body::no_rows();
-        b.rows = rows;
-        let t = b.transfer;
-        let ended = picks::broken(t);
-        b.transfer = ended;
-        self.body = b;
+        self.body = BodyState {
+            columns,
+            rows: body::no_rows(),
+            transfer: picks::broken(self.body.transfer),
+            ..self.body
+        };
         done(self)
     }
 
@@ -142,16 +126,16 @@ impl Meter {
     pub fn set_period(mut self, period: u32) -> Changed
         ensures { Owned (OwnerCall.set_period period) self result }
     {
-        let m = self;
-        if !is_sound(m) {
-            return refused(3, m);
+        if !is_sound(self) {
+            return refused(3, self);
         }
         if !calendar::is_permitted(period) {
-            return refused(15, m);
+            return refused(15, self);
         }
-        let mut b = m.body;
-        b.period = period;
-        self.body = b;
+        self.body = BodyState {
+            period,
+            ..self.body
+        };
         done(self)
     }
 
@@ -159,16 +143,13 @@ impl Meter {
     pub fn tick(mut self, clock: Clock) -> Changed
         ensures { Owned (OwnerCall.tick clock) self result }
     {
-        let m = self;
-        if !is_sound(m) {
-            return refused(3, m);
+        if !is_sound(self) {
+            return refused(3, self);
         }
         if !calendar::is_valid(clock) {
-            return refused(14, m);
+            return refused(14, self);
         }
-        let b = m.body;
-        let next = body::ticked(b, clock);
-        self.body = next;
+        self.body = body::ticked(self.body, clock);
         done(self)
     }
 
@@ -176,13 +157,13 @@ impl Meter {
     pub fn set_p5(mut self, held: bool) -> Changed
         ensures { Owned (OwnerCall.set_p5 held) self result }
     {
-        let m = self;
-        if !is_sound(m) {
-            return refused(3, m);
+        if !is_sound(self) {
+            return refused(3, self);
         }
-        let mut l = m.line;
-        l.p5 = held;
-        self.line = l;
+        self.line = LineState {
+            p5: held,
+            ..self.line
+        };
         done(self)
     }
 
@@ -191,20 +172,16 @@ impl Meter {
     pub fn power_up(mut self) -> Changed
         ensures { PoweredUp self result }
     {
-        let m = self;
-        if !is_sound(m) {
-            return refused(3, m);
+        if !is_sound(self) {
+            return refused(3, self);
         }
-        let l = m.line;
-        let line = line::powered_up(l);
-        let mut b = m.body;
-        let rows = body::no_rows();
-        b.rows = rows;
-        b.number = 0;
-        let transfer = picks::no_transfer();
-        b.transfer = transfer;
-        self.line = line;
-        self.body = b;
+        self.line = line::powered_up(self.line);
+        self.body = BodyState {
+            rows: body::no_rows(),
+            number: 0,
+            transfer: picks::no_transfer(),
+            ..self.body
+        };
         done(self)
     }
 
@@ -213,11 +190,10 @@ impl Meter {
     pub fn cleared(self) -> Meter
         ensures { Cleared self result }
     {
-        let l = self.line;
-        let line = line::clear_line(l);
-        let b = self.body;
-        let body = body::clear_body(b);
-        Meter { line, body }
+        Meter {
+            line: line::clear_line(self.line),
+            body: body::clear_body(self.body),
+        }
     }
 }
 

@@ -6,6 +6,7 @@ pub mod Services
 pub mod Selecting
 pub mod State
 pub mod Clients
+pub mod Codes
 pub mod Objects
 pub mod Lengths
 pub mod WorkedAnswers

@@ -1,8 +1,11 @@
 // The types that the model of a meter shares with the code: the clients, names, clocks, registers and counters, and the tests of
-// soundness; and two limits. There are no functions: what a meter holds and does is defined in specs/, and demand 3 is proved over it in
-// proofs/.
+// soundness; and two limits. But for the number of a denial there are no functions: what a meter holds and does is defined in specs/, and
+// demand 3 is proved over it in proofs/.
 
 #![tactic(auto)]
+
+ghost use Rattle.std.specs.Prelude.{◌≡◌};
+ghost use Rattle.model.specs.Codes.{code_of};
 
 // The bytes that data for H may take in one frame, and those of a full block: data_room and block_room of specs/Limits, of the longest
 // information that is sent.
@@ -24,7 +27,7 @@ pub enum Client {
 }
 
 // A logical name: the "name" of an object or a register.
-#[derive(Clone, Copy)]
+#[derive(Clone, Copy, PartialEq, Eq)]
 pub struct Name {
     pub bytes: [u8; 6],
 }
@@ -43,6 +46,29 @@ pub struct Register {
     pub scaler: u8,
     pub unit: u8,
     pub value: u32,
+}
+
+// Why a read or a method is denied. The numbers are the result codes that go out.
+#[derive(Clone, Copy, PartialEq, Eq)]
+pub enum Denial {
+    // not served, or no right to it
+    NotServed = 3,
+    NameUnknown = 4,
+    ClassWrong = 9,
+    // a selector or a parameter of another shape, or where none belongs
+    ShapeWrong = 12,
+    // a range or entries that no rows can be asked for by
+    RowsWrong = 13,
+    // for one frame, and blocks were not agreed
+    AnswerTooLong = 250,
+}
+
+impl From<Denial> for u8 {
+    ghost from_gives = { λ denial code. code ≡ code_of denial };
+
+    fn from(denial: Denial) -> u8 {
+        denial as u8
+    }
 }
 
 // The invocation counters of a ciphering client, the "counter pair": the last one accepted from it, and the meter's own, last sent.

@@ -4,22 +4,15 @@ use mathlib.Core.Bool.{Bool, true, false, cond}
 use mathlib.Core.List.{List, [], ◌∷◌, map}
 use Prim.Native.Nat.{ℕ, zero, suc, ◌+◌, ◌≤◌, ◌<◌}
 use native.Mathlib.Omega.{arith}
-use lib.ListN.{length, take, get_or, length-map}
-use lib.Seq.{get_or-take}
-use lib.Dec.{lit<}
-use borrow.Author.Tests.{lt-ltb, le-ltb}
+use lib.ListN.{length, get_or}
 use Rattle.wire.specs.Reading.{same_bytes}
 use Rattle.wire.proofs.ReadingLaws.{by_order}
 use Rattle.model.specs.declared.Name.{Name}
 use Rattle.model.specs.declared.CipherClient.TheVariants.{Han}
 use Rattle.model.specs.declared.Register.{Register}
-use Rattle.model.specs.Names.{same_name, seat, place, given, bearing, blank_name, blank_register, name_of}
-use Rattle.model.specs.Objects.{Own, device_object, own_objects, challenge_of, own_names, register_object, Meaning, known, unknown, among_own, among_registers}
+use Rattle.model.specs.Names.{same_name, seat, given, bearing, blank_name}
+use Rattle.model.specs.Objects.{Own, device_object, own_objects, challenge_of, own_names, register_object, Meaning, known, among_own, among_registers}
 use Rattle.model.proofs.NameLaws.{same_name_lem, given_bears}
-use Rattle.store.specs.declared.Registers.{Registers}
-use Rattle.store.specs.Lists.{registers_of}
-use Rattle.store.proofs.HeldLaws.{held_length, held_at}
-use Rattle.store.proofs.StoreLaws.{names_taken}
 
 -- Own objects.
 
@@ -86,32 +79,15 @@ none_of_six (suc (suc (suc (suc (suc (suc zero)))))) n₁ n₂ n₃ n₄ n₅ n�
 none_of_six (suc (suc (suc (suc (suc (suc (suc i))))))) n₁ n₂ n₃ n₄ n₅ n₆ h k = over_six i k
 
 -- the fifth own name is the device name's
-pub device_is : (l : List Name) (n : Name) → take 7 l ≡ own_names → same_name (get_or l 4 blank_name) n ≡ same_name device_object.name n
-device_is l n e = ap (λ (m : Name). same_name m n) (sym (get_or-take 7 l 4 blank_name (lit< tt)) ∙ ap (λ (ns : List Name). get_or ns 4 blank_name) e)
+pub device_is : (l : List Name) (n : Name) → l ≡ own_names → same_name (get_or l 4 blank_name) n ≡ same_name device_object.name n
+device_is l n e = ap (λ (ns : List Name). same_name (get_or ns 4 blank_name) n) e
 
 -- Registers.
 
-module _ (n : Name) (s : Registers) (i : ℕ) (full : length s.items ≡ 16) (few : s.count ≤ 16) (e : i ≡ seat n (take s.count (map name_of s.items))) where
-  here : place n (registers_of s) ≡ i
-  here = ap (seat n) (names_taken s full few) ∙ sym e
-
-  counted : length (map name_of (registers_of s)) ≡ s.count
-  unfolding registers_of
-  counted = length-map (registers_of s) name_of ∙ held_length blank_register s.count s.items
-
-  pub register_none : s.count ≤ i → among_registers n (registers_of s) ≡ unknown
-  register_none h = rw (here, counted, le-ltb i s.count h)
-
-  bears : i < s.count → bearing n (registers_of s) ≡ get_or s.items i blank_register
-  unfolding registers_of
-  bears h = ap (λ (k : ℕ). get_or (registers_of s) k blank_register) here ∙ held_at blank_register s.count s.items i (omega arith) h
-
-  -- a register bears the name by which it is found
-  pub register_here : (r : Register) → i < s.count → r ≡ get_or s.items i blank_register
-      → among_registers n (registers_of s) ≡ known (register_object (record { name = n; readable = r.readable; scaler = r.scaler; unit = r.unit; value = r.value }))
-  register_here r h q =
-      let g : given n (registers_of s) ≡ true = rw (here, counted) (lt-ltb i s.count h) in
-      let b : bearing n (registers_of s) ≡ r = bears h ∙ sym q in
-      let m : r.name ≡ n = ap (λ (x : Register). x.name) (sym b) ∙ given_bears n (registers_of s) g in
-      let w : r ≡ record { name = n; readable = r.readable; scaler = r.scaler; unit = r.unit; value = r.value } = (λ j. record { name = m j; readable = r.readable; scaler = r.scaler; unit = r.unit; value = r.value }) in
-      rw g (ap (λ (x : Register). known (register_object x)) (b ∙ w))
+-- a register bears the name by which it is found
+pub register_here : (n : Name) (rs : List Register) (r : Register) → given n rs ≡ true → bearing n rs ≡ r
+    → among_registers n rs ≡ known (register_object (record { name = n; readable = r.readable; scaler = r.scaler; unit = r.unit; value = r.value }))
+register_here n rs r g b =
+    let m : r.name ≡ n = ap (λ (x : Register). x.name) (sym b) ∙ given_bears n rs g in
+    let w : r ≡ record { name = n; readable = r.readable; scaler = r.scaler; unit = r.unit; value = r.value } = (λ j. record { name = m j; readable = r.readable; scaler = r.scaler; unit = r.unit; value = r.value }) in
+    rw g (ap (λ (x : Register). known (register_object x)) (b ∙ w))

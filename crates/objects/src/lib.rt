@@ -1,8 +1,8 @@
 // The objects of the meter: what a name means to a client, and the rows that a selection picks. specs/ says which value of
-// the model each enum stands for.
+// the model each type stands for.
 #![tactic(auto)]
 
-use model::{Client, Name};
+use model::{Client, Name, Register};
 
 mod select;
 mod table;
@@ -19,18 +19,13 @@ pub enum Plain {
     Device,
 }
 
-// What an object shows as attribute 2.
+// What an object shows as attribute 2. A register's name is the one that was asked for.
 #[derive(Clone, Copy)]
 pub enum Shown {
     Of(Plain),
     Rows,
     RecordNumber,
-    Register {
-        readable: bool,
-        scaler: u8,
-        unit: u8,
-        value: u32,
-    },
+    Register(Register),
 }
 
 // An object as it is served: its class, its attributes and methods, counted from 1, and what it shows.
@@ -40,13 +35,6 @@ pub struct Served {
     pub attributes: u8,
     pub methods: u8,
     pub shown: Shown,
-}
-
-// What a name means to a client.
-#[derive(Clone, Copy)]
-pub enum Found {
-    Known(Served),
-    Unknown,
 }
 
 // A request but for its service.
@@ -60,16 +48,9 @@ pub struct Query {
     pub name: Name,
 }
 
-// The selection of a GET; its value begins at `at` and ends with the APDU.
+// A selector of a GET, by its number; its value begins at `at` and ends with the APDU.
 #[derive(Clone, Copy)]
-pub enum Selector {
-    All,
-    Selected { selector: u8, at: usize },
-}
-
-// The parameter of an ACTION; its value begins there and ends with the APDU.
-#[derive(Clone, Copy)]
-pub enum Argument {
-    Absent,
-    Present(usize),
+pub struct Selector {
+    pub number: u8,
+    pub at: usize,
 }

@@ -1,17 +1,16 @@
 // The object table: which client is served what. The names are those of store::own_names, in its order.
-ghost use Rattle.std.specs.Prelude.{◌≡◌, cond, [], ◌∷◌, ◌≤◌};
+ghost use Rattle.std.specs.Prelude.{◌≡◌, cond, [], ◌∷◌, ◌≤◌, Some};
 ghost use Rattle.model.specs.declared.Client.TheVariants.{Ciphering};
 ghost use Rattle.model.specs.Objects.{among_own, among_registers, device_object, meaning, own_objects, unknown};
 ghost use Rattle.store.specs.Lists.{registers_of};
-ghost use Rattle.objects.specs.declared.Found.TheVariants.{Known};
 ghost use Rattle.objects.specs.Meanings.{found_as};
 
-use crate::{Found, Plain, Served, Shown};
+use crate::{Plain, Served, Shown};
 use model::{CipherClient, Client, Name};
 use store::Registers;
 
 // What a name means to a client.
-pub fn find(client: Client, name: Name, registers: Registers) -> Found
+pub fn find(client: Client, name: Name, registers: Registers) -> Option<Served>
     requires { registers.count ≤ 16 }
     ensures { found_as name result ≡ meaning client name (registers_of registers) }
 {
@@ -22,7 +21,7 @@ pub fn find(client: Client, name: Name, registers: Registers) -> Found
 }
 
 // What it means to a client that ciphers.
-fn find_ciphering(client: CipherClient, name: Name, registers: Registers) -> Found
+fn find_ciphering(client: CipherClient, name: Name, registers: Registers) -> Option<Served>
     requires { registers.count ≤ 16 }
     ensures { found_as name result ≡ meaning (Ciphering client) name (registers_of registers) }
 {
@@ -32,24 +31,25 @@ fn find_ciphering(client: CipherClient, name: Name, registers: Registers) -> Fou
 }
 
 // The device name, which is all that V reads.
-fn find_device(name: Name) -> Found
+fn find_device(name: Name) -> Option<Served>
     ensures { found_as name result ≡ among_own name (device_object ∷ []) unknown }
 {
     let own = store::own_names();
-    let device = own[4];
-    if !names::same_name(device, name) {
-        return Found::Unknown;
+    if own[4] == name {
+        known(1, 2, 0, Shown::Of(Plain::Device))
+    } else {
+        None
     }
-    known(1, 2, 0, Shown::Of(Plain::Device))
 }
 
 // An own object, or else a register. The first own name is the challenge's, which is not read.
-fn find_own(name: Name, registers: Registers) -> Found
+fn find_own(name: Name, registers: Registers) -> Option<Served>
     requires { registers.count ≤ 16 }
     ensures { found_as name result ≡ among_own name own_objects (among_registers name (registers_of registers)) }
 {
-    let own = store::own_names();
-    let i = names::seat_of(name, own, 7);
+    let Some(i) = names::seat_of(name, &store::own_names()) else {
+        return find_register(name, registers);
+    };
     match i {
         1 => known(8, 2, 0, Shown::Of(Plain::Clock)),
         2 => known(1, 2, 0, Shown::Of(Plain::Time)),
@@ -61,29 +61,14 @@ fn find_own(name: Name, registers: Registers) -> Found
     }
 }
 
-fn find_register(name: Name, registers: Registers) -> Found
+fn find_register(name: Name, registers: Registers) -> Option<Served>
     requires { registers.count ≤ 16 }
     ensures { found_as name result ≡ among_registers name (registers_of registers) }
 {
-    let n = registers.count;
-    let items = registers.items;
-    let names = names::names_of(items);
-    let i = names::seat_of(name, names, n);
-    if n <= i {
-        return Found::Unknown;
-    }
-    let r = items[i];
-    known(
-        3,
-        attributes_if(r.readable),
-        0,
-        Shown::Register {
-            readable: r.readable,
-            scaler: r.scaler,
-            unit: r.unit,
-            value: r.value,
-        },
-    )
+    let r = registers.items[..registers.count]
+        .iter()
+        .find(|r| r.name == name)?;
+    known(3, attributes_if(r.readable), 0, Shown::Register(*r))
 }
 
 // The attributes of a register: without the right none is served.
@@ -93,10 +78,10 @@ fn attributes_if(readable: bool) -> u8
     if readable { 3 } else { 0 }
 }
 
-fn known(class: u16, attributes: u8, methods: u8, shown: Shown) -> Found
-    ensures { result ≡ Known (record { class = class; attributes = attributes; methods = methods; shown = shown }) }
+fn known(class: u16, attributes: u8, methods: u8, shown: Shown) -> Option<Served>
+    ensures { result ≡ Some (record { class = class; attributes = attributes; methods = methods; shown = shown }) }
 {
-    Found::Known(Served {
+    Some(Served {
         class,
         attributes,
         methods,

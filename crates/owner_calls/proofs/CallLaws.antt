@@ -19,50 +19,48 @@ use Rattle.meter.specs.declared.Changed.{Changed}
 use Rattle.meter.specs.View.{view}
 use Rattle.meter.specs.Promise.{Owned}
 use Rattle.meter.specs.Canonical.{Cleared, Fresh}
-use Rattle.image.specs.declared.ImageRead.{ImageRead}
-use Rattle.image.specs.declared.Status.{Status}
-use Rattle.image.specs.declared.Status.TheVariants.{Whole, WrongLength, WrongVersion, NoImage}
-use Rattle.image.specs.Image.{image_size, image_of, meter_of, meter_in, meter_by, status_of, read_image, image_refusal, not_sound}
-use Rattle.image.proofs.ImageLaws.{passed as whole-image, in_meter}
-use Rattle.image_write.specs.declared.Written.{Written}
+use Rattle.std.specs.Prelude.{Result, Ok, Err}
+use Rattle.image.specs.declared.ImageFault.{ImageFault}
+use Rattle.image.specs.declared.ImageFault.TheVariants.{WrongLength, WrongVersion, NoImage}
+use Rattle.image.specs.Image.{Status, whole, image_size, image_of, meter_of, read_by, status_of, read_image, fault_number, image_refusal, not_sound}
+use Rattle.image.proofs.ImageLaws.{passed as whole-image}
+use Rattle.image_write.specs.declared.WrongBuffer.{WrongBuffer}
 use Rattle.image_write.specs.Writing.{Writes}
-use Rattle.image_write.proofs.WritesLaws.{done}
-use Rattle.owner_calls.specs.Refusals.{wrong_argument, fault_of, fault_refusal, refusal_by, new_refusal, new_sized, sized}
+use Rattle.image_write.proofs.WritesLaws.{answered}
+use Rattle.owner_calls.specs.Refusals.{MeterFor, wrong_argument, fault_of, fault_refusal, refusal_by, new_refusal, new_sized, sized}
 use Rattle.owner_calls.specs.Lending.{LentOwner, fault, owner_of}
 use Rattle.owner_calls.specs.Promises.{image_for, Stores, NewCalled, Owns, refusal_for, OwnerCalled, Ends}
 
 -- The buffer.
 
--- the image of this very meter is read
-abbrev whole : Meter → ImageRead
-whole m = record { status = Whole; meter = m }
-
--- a whole image has its length, and the meter in it is read
-pub read_meter : (s : List ℕ) {m : Meter} → status_of s ≡ Whole → m ≡ meter_in s → m ≡ meter_of s
-read_meter s w e = e ∙ in_meter s (whole-image s w).long
+-- a meter that is read is that of a whole image
+pub read_whole : (t : Status) {m r : Meter} → read_by t m ≡ Ok r → (t ≡ whole) × (m ≡ r)
+read_whole (Ok u) e = (refl, cc)
+read_whole (Err f) e = cc
 
 -- what is stored in a buffer of the right length, where the one meter that holds just this is written
-written : {n : Model} {r : Meter} {s e : List ℕ} {w : Written} → Fresh n r → Writes r s e w → length s ≡ image_size → Stores n e
+written : {n : Model} {r : Meter} {s e : List ℕ} {w : Result (Unit {0}) WrongBuffer} → Fresh n r → Writes r s e w → length s ≡ image_size → Stores n e
 written {r = r} {e = e} f w long =
-    let d = done w long in
-    let read : read_image e ≡ whole r = w.back d.0 in
-    let status : status_of e ≡ Whole = ap (λ (i : ImageRead). i.status) read in
-    let meter : meter_of e ≡ r = ap (λ (t : Status). meter_by t e) (sym status) ∙ ap (λ (i : ImageRead). i.meter) read in
-    record { bytes = d.1 ∙ ap image_of f.is; status = status; holds = ap view meter ∙ f.holds }
+    let d = answered w long in
+    let read = read_whole (status_of e) (w.back d.0) in
+    record { bytes = d.1 ∙ ap image_of f.is; status = read.0; holds = ap view read.1 ∙ f.holds }
 
 -- where a sound meter was cleared and written
-pub stored : {m r : Meter} {s e : List ℕ} {w : Written} → Cleared m r → Writes r s e w → length s ≡ image_size → sound (view m) ≡ true → Stores (view m) e
+pub stored : {m r : Meter} {s e : List ℕ} {w : Result (Unit {0}) WrongBuffer} → Cleared m r → Writes r s e w → length s ≡ image_size → sound (view m) ≡ true → Stores (view m) e
 stored k w long y = written (record { is = k.canonical y; holds = k.same }) w long
 
 -- A refusal before the call.
 
 -- there is none: the image is whole, and the arguments are taken
 
-pub image_whole : (t : Status) → image_refusal t ≡ 0 → t ≡ Whole
-image_whole Whole e = refl
-image_whole WrongLength e = absurd (omega arith)
-image_whole WrongVersion e = absurd (omega arith)
-image_whole NoImage e = absurd (omega arith)
+pub fault_some : (f : ImageFault) → fault_number f ≡ 0 → ⊥
+fault_some WrongLength e = omega arith
+fault_some WrongVersion e = omega arith
+fault_some NoImage e = omega arith
+
+pub image_whole : (t : Status) → image_refusal t ≡ 0 → t ≡ whole
+image_whole (Ok u) e = refl
+image_whole (Err f) e = absurd (fault_some f e)
 
 fault_none : (y : Bool) (k : ℕ) → fault_refusal y k ≡ 0 → k ≡ 0
 fault_none y k = go (eqb k 0) y refl
@@ -72,24 +70,15 @@ fault_none y k = go (eqb k 0) y refl
     go false true p e = e
     go false false p e = absurd (omega arith)
 
-refusal_none : (t : Status) (y : Bool) (k : ℕ) → refusal_by t y k ≡ 0 → (t ≡ Whole) × (k ≡ 0)
-refusal_none Whole y k e = (refl, fault_none y k e)
-refusal_none WrongLength y k e = absurd (omega arith)
-refusal_none WrongVersion y k e = absurd (omega arith)
-refusal_none NoImage y k e = absurd (omega arith)
+refusal_none : (t : Status) (y : Bool) (k : ℕ) → refusal_by t y k ≡ 0 → (t ≡ whole) × (k ≡ 0)
+refusal_none (Ok u) y k e = (refl, fault_none y k e)
+refusal_none (Err WrongLength) y k e = absurd (omega arith)
+refusal_none (Err WrongVersion) y k e = absurd (omega arith)
+refusal_none (Err NoImage) y k e = absurd (omega arith)
 
--- by the image
-pub refusal_image : (t : Status) (y : Bool) (k : ℕ) → (image_refusal t ≡ 0 → ⊥) → image_refusal t ≡ refusal_by t y k
-refusal_image Whole y k h = absurd (h refl)
-refusal_image WrongLength y k h = refl
-refusal_image WrongVersion y k h = refl
-refusal_image NoImage y k h = refl
-
--- of a whole image by the meter in it
-pub refusal_whole : (s : List ℕ) (k : ℕ) {n : ℕ} → status_of s ≡ Whole → n ≡ fault_refusal (sound (view (meter_in s))) k → n ≡ refusal_by (status_of s) (sound (view (meter_of s))) k
-refusal_whole s k w e =
-    e ∙ ap (λ (m : Meter). fault_refusal (sound (view m)) k) (read_meter s w refl)
-    ∙ ap (λ (t : Status). refusal_by t (sound (view (meter_of s))) k) (sym w)
+-- the meter that was read, for a call without an argument that could be refused
+pub read_taken : (s : List ℕ) (m : Meter) → Ok m ≡ read_image s → MeterFor s 0 (Ok m)
+read_taken s m e = let w = read_whole (status_of s) (sym e) in (rw w.0 refl, sym w.1)
 
 -- Calls on the meter in the buffer.
 
@@ -110,7 +99,7 @@ obeyed_sound c m = go (sound m) (eqb (own_refusal c m) 0) refl refl
     go false b q z e = absurd (omega (arith, rw q at e))
 
 -- the call that was made on the meter in the buffer
-made : {c : OwnerCall} {s e : List ℕ} {n : ℕ} {r : Changed} → Owned c (meter_of s) r → status_of s ≡ Whole → Ends r s e n → Owns c s e n
+made : {c : OwnerCall} {s e : List ℕ} {n : ℕ} {r : Changed} → Owned c (meter_of s) r → status_of s ≡ whole → Ends r s e n → Owns c s e n
 made {c} {s} {e} {n} {r} o w d =
     record {
       promised = λ p. record { refusal = number p; count = (o.promised p).count; meter = holds.0 ∙ (o.promised p).meter; room = (o.promised p).room };
@@ -130,38 +119,29 @@ made {c} {s} {e} {n} {r} o w d =
     there : n ≡ 0 → Stores (view r.meter) e
     there z = d.stored (whole-image s w).long (obeys z).1 z
 
-    go : (k : ℕ) → n ≡ k → (view (meter_of e) ≡ view r.meter) × (status_of e ≡ Whole)
+    go : (k : ℕ) → n ≡ k → (view (meter_of e) ≡ view r.meter) × (status_of e ≡ whole)
     go zero q = let t = there q in (t.holds, t.status)
     go (suc k) q =
         let some : n ≡ 0 → ⊥ = λ z. omega arith in
         let kept = d.kept some in
         (ap (λ (x : List ℕ). view (meter_of x)) kept ∙ ap view (sym (o.kept (λ z. some (d.number ∙ z)))), ap status_of kept ∙ w)
 
-    holds : (view (meter_of e) ≡ view r.meter) × (status_of e ≡ Whole)
+    holds : (view (meter_of e) ≡ view r.meter) × (status_of e ≡ whole)
     holds = go n refl
 
-before : (c : LentOwner) (s : List ℕ) {k n : ℕ} → k ≡ fault c → n ≡ refusal_by (status_of s) (sound (view (meter_of s))) k → n ≡ refusal_for c s
-before c s g e = e ∙ ap (refusal_by (status_of s) (sound (view (meter_of s)))) g
+module _ (s : List ℕ) (c : LentOwner) {k : ℕ} (g : k ≡ fault c) where
+  before : {n : ℕ} → n ≡ refusal_by (status_of s) (sound (view (meter_of s))) k → n ≡ refusal_for c s
+  before e = e ∙ ap (refusal_by (status_of s) (sound (view (meter_of s)))) g
 
-module _ {k n : ℕ} {s : List ℕ} (c : LentOwner) (g : k ≡ fault c) (e : n ≡ refusal_by (status_of s) (sound (view (meter_of s))) k) where
-  pub owner_refused : (n ≡ 0 → ⊥) → OwnerCalled c s s n
-  owner_refused h = let q = before c s g e in record { refused = λ _. q; called = λ z. absurd (h (q ∙ z)); kept = λ _. refl }
-
-  pub owner_called : {m : Meter} {r : Changed} {f : List ℕ} {q : ℕ} → n ≡ 0 → m ≡ meter_in s → (fault c ≡ 0 → Owned (owner_of c) m r) → Ends r s f q → OwnerCalled c s f q
-  owner_called {r = r} z i o d =
-      let y : refusal_for c s ≡ 0 = sym (before c s g e) ∙ z in
+  pub owner_called : {m : Meter} {r : Changed} {f : List ℕ} {q : ℕ} → MeterFor s k (Ok m) → (fault c ≡ 0 → Owned (owner_of c) m r) → Ends r s f q → OwnerCalled c s f q
+  owner_called {r = r} i o d =
+      let y : refusal_for c s ≡ 0 = sym (before refl) ∙ i.0 in
       let w = refusal_none (status_of s) (sound (view (meter_of s))) (fault c) y in
       record {
         refused = λ h. absurd (h y);
-        called = λ _. made (subst (λ (m : Meter). Owned (owner_of c) m r) (read_meter s w.0 i) (o w.1)) w.0 d;
+        called = λ _. made (subst (λ (m : Meter). Owned (owner_of c) m r) i.1 (o w.1)) w.0 d;
         kept = d.kept;
       }
-
-pub ends_refused : {r : Changed} {s : List ℕ} → (r.refusal ≡ 0 → ⊥) → Ends r s s r.refusal
-ends_refused h = record { number = refl; stored = λ _ _ z. absurd (h z); kept = λ _. refl }
-
-pub ends_written : {r : Changed} {m : Meter} {s e : List ℕ} {w : Written} → r.refusal ≡ 0 → Cleared r.meter m → Writes m s e w → Ends r s e 0
-ends_written z k w = record { number = sym z; stored = λ long y _. stored k w long y; kept = λ h. absurd (h refl) }
 
 -- Lent bytes of the right length, as arrays.
 
@@ -185,9 +165,6 @@ module _ (d t v h : List ℕ) where
       let c = (and-eq-true_iff (eqb (length v) 8) (eqb (length h) 8)).0 b.1 in
       record { device = eqb-true _ _ a.0; title = eqb-true _ _ b.0; verification = eqb-true _ _ c.0; han = eqb-true _ _ c.1 }
 
-  pub new_fault : {b : Bool} {k : ℕ} → b ≡ new_sized d t v h → k ≡ fault_of b wrong_argument → k ≡ fault_of (new_sized d t v h) wrong_argument
-  new_fault e f = f ∙ ap (λ (b : Bool). fault_of b wrong_argument) e
-
   pub new_given : {d' t' v' h' : List ℕ} → fault_of (new_sized d t v h) wrong_argument ≡ 0 → d' ≡ filled d 0 (replicate 16 0) → t' ≡ filled t 0 (replicate 8 0) → v' ≡ filled v 0 (replicate 8 0) → h' ≡ filled h 0 (replicate 8 0) → new_meter d' t' v' h' ≡ new_meter d t v h
   new_given z a b c e =
       let s = new_sized_lem z in
@@ -204,7 +181,7 @@ module _ {d t v h : List ℕ} {s : List ℕ} where
     pub new_wrong : {n : ℕ} → n ≡ fault_of (new_sized d t v h) wrong_argument → (n ≡ 0 → ⊥) → NewCalled d t v h s s n
     new_wrong e k = new_refused (rw (eq-eqb (length s) image_size long) e) k
 
-    pub new_called : {n : Model} {r : Meter} {e : List ℕ} {w : Written} → fault_of (new_sized d t v h) wrong_argument ≡ 0 → n ≡ new_meter d t v h → Fresh n r → Writes r s e w → NewCalled d t v h s e 0
+    pub new_called : {n : Model} {r : Meter} {e : List ℕ} {w : Result (Unit {0}) WrongBuffer} → fault_of (new_sized d t v h) wrong_argument ≡ 0 → n ≡ new_meter d t v h → Fresh n r → Writes r s e w → NewCalled d t v h s e 0
     new_called {e = e} z new f w =
         record {
           refused = λ k. absurd (k (rw (eq-eqb (length s) image_size long) z));

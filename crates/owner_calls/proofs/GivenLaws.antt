@@ -26,7 +26,7 @@ use Rattle.image.specs.Codec.{Codec}
 use Rattle.image.specs.Layout.{name_part, register_part}
 use Rattle.image.specs.Lists.{list_in, Begins}
 use Rattle.image.proofs.ListLaws.{length_list, begun}
-use Rattle.image.proofs.Sizes.{sizes}
+use Rattle.image.specs.Sizes.{sizes}
 
 -- calls that come to the same have the same promise
 same_owned : {c d : OwnerCall} {m : Meter} {r : Changed} → ((p : Protocol) → step p (owner c) (view m) ≡ step p (owner d) (view m)) → Owned c m r → Owned d m r

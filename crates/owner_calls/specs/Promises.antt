@@ -11,8 +11,7 @@ use Rattle.meter.specs.declared.Meter.{Meter}
 use Rattle.meter.specs.declared.Changed.{Changed}
 use Rattle.meter.specs.View.{view}
 use Rattle.meter.specs.Canonical.{canonical}
-use Rattle.image.specs.declared.Status.TheVariants.{Whole}
-use Rattle.image.specs.Image.{image_size, image_of, meter_of, status_of}
+use Rattle.image.specs.Image.{image_size, image_of, meter_of, whole, status_of}
 use Rattle.owner_calls.specs.Refusals.{refusal_by, new_refusal}
 use Rattle.owner_calls.specs.Lending.{LentOwner, fault, owner_of}
 
@@ -27,7 +26,7 @@ handed_back n k e l o = record { refusal = n; count = k; meter = meter_of e; bef
 -- a buffer that was written: just this is held, in its one image, and that is what the next call reads
 pub record Stores (m : Model) (e : List ℕ) : Type 0 where
   pub bytes : e ≡ image_for m
-  pub status : status_of e ≡ Whole
+  pub status : status_of e ≡ whole
   pub holds : view (meter_of e) ≡ m
 
 -- A new meter.
@@ -48,7 +47,7 @@ pub record NewCalled (device title verification han : List ℕ) (s e : List ℕ)
 pub record Owns (c : OwnerCall) (s e : List ℕ) (n : ℕ) : Type 0 where
   pub promised : (p : Protocol) → Promised Meter view p (owner c) (meter_of s) (handed_back n 0 e [] [])
   pub bytes : n ≡ 0 → e ≡ image_for (obeyed c (view (meter_of s)))
-  pub again : status_of e ≡ Whole
+  pub again : status_of e ≡ whole
 
 -- the refusal that comes before the call, or 0
 abbrev pub refusal_for : LentOwner → List ℕ → ℕ

@@ -1,58 +1,97 @@
-// What is refused before a call is made.
+// Why a call is refused, and what is refused before a call is made.
 ghost use Rattle.std.specs.Prelude.{◌≡◌};
-ghost use Rattle.model.specs.Soundness.{sound};
-ghost use Rattle.meter.specs.View.{view};
-ghost use Rattle.image.specs.Image.{meter_in, meter_of, status_of};
-ghost use Rattle.owner_calls.specs.Refusals.{fault_of, fault_refusal, new_sized, refusal_by};
+ghost use Rattle.owner_calls.specs.declared.refusals.Refusal.TheVariants.{Image};
+ghost use Rattle.owner_calls.specs.Refusals.{argument_number, fault_of, MeterFor, new_sized, number, number_of};
 
-// Of a call on this state buffer: by what reading the buffer comes to, then by the fault of an argument; 0 where the call is to
-// be made.
-pub fn refusal_of(state: &[u8], fault: u8) -> u8
-    ensures { result ≡ refusal_by (status_of state.now) (sound (view (meter_of state.now))) fault }
-{
-    let n = image::refusal_of(image::status_of(state));
-    if n != 0 {
-        return n;
-    }
-    fault_refusal(state, fault)
+use image::ImageFault;
+use meter::Meter;
+
+// An argument that cannot be taken.
+#[derive(Clone, Copy, PartialEq, Eq)]
+pub enum ArgumentFault {
+    ClockNotValid,
+    RegistersBad,
+    NoSuchRegister,
+    ColumnsBad,
+    // an argument of a new meter of another length, a flag that is neither 0 nor 1
+    WrongArgument,
 }
 
-// Of a whole image: the state is tested before what the call is given.
-fn fault_refusal(state: &[u8], fault: u8) -> u8
-    ensures { result ≡ fault_refusal (sound (view (meter_in state.now))) fault }
-{
-    if fault == 0 {
-        return 0;
+impl ArgumentFault {
+    // Document 01's number, and 104 for what it does not know.
+    pub fn number(self) -> u8
+        ensures { result ≡ argument_number self }
+    {
+        match self {
+            ArgumentFault::ClockNotValid => 14,
+            ArgumentFault::RegistersBad => 16,
+            ArgumentFault::NoSuchRegister => 17,
+            ArgumentFault::ColumnsBad => 18,
+            ArgumentFault::WrongArgument => 104,
+        }
     }
-    let meter = image::meter_in(state);
+}
+
+#[derive(Clone, Copy, PartialEq, Eq)]
+pub enum Refusal {
+    // the buffer holds no whole image
+    Image(ImageFault),
+    // the meter in it is not sound
+    NotSound,
+    Argument(ArgumentFault),
+    // the meter refuses the call, by this number of document 01
+    Meter(u8),
+}
+
+impl From<ImageFault> for Refusal {
+    ghost from_gives = { λ fault r. r ≡ Image fault };
+
+    fn from(fault: ImageFault) -> Refusal {
+        Refusal::Image(fault)
+    }
+}
+
+impl Refusal {
+    pub fn number(self) -> u8
+        ensures { result ≡ number self }
+    {
+        match self {
+            Refusal::Image(fault) => fault.number(),
+            Refusal::NotSound => ImageFault::NoImage.number(),
+            Refusal::Argument(fault) => fault.number(),
+            Refusal::Meter(number) => number,
+        }
+    }
+}
+
+// The number that a call answers: 0 where it is accepted.
+pub fn number_of(answer: Result<(), Refusal>) -> u8
+    ensures { result ≡ number_of answer }
+{
+    match answer {
+        Ok(()) => 0,
+        Err(refusal) => refusal.number(),
+    }
+}
+
+// The meter in a state buffer, for a call whose argument is taken or has this fault. The state is tested before what the call is
+// given.
+pub fn meter_for(state: &[u8], is_taken: bool, fault: ArgumentFault) -> Result<Meter, Refusal>
+    ensures { MeterFor state.now (fault_of is_taken (argument_number fault)) result }
+{
+    let meter = image::read_image(state)?;
+    if is_taken {
+        return Ok(meter);
+    }
     if !meter::is_sound(meter) {
-        return image::NOT_SOUND;
+        return Err(Refusal::NotSound);
     }
-    fault
-}
-
-// The fault of an argument: 0 where it is taken.
-pub fn fault_of(taken: bool, number: u8) -> u8
-    ensures { result ≡ fault_of taken number }
-{
-    if taken {
-        return 0;
-    }
-    number
+    Err(Refusal::Argument(fault))
 }
 
 // Whether a device name and the titles of the meter, of V and of H have their lengths.
 pub fn are_sized(device: &[u8], title: &[u8], v_title: &[u8], h_title: &[u8]) -> bool
     ensures { result ≡ new_sized device.now title.now v_title.now h_title.now }
 {
-    if device.len() != 16 {
-        return false;
-    }
-    if title.len() != 8 {
-        return false;
-    }
-    if v_title.len() != 8 {
-        return false;
-    }
-    h_title.len() == 8
+    device.len() == 16 && title.len() == 8 && v_title.len() == 8 && h_title.len() == 8
 }

@@ -2,39 +2,14 @@
 use mathlib.Core.Path.{◌≡◌, refl, sym}
 use mathlib.Core.Bool.{Bool, true, false, cond, not}
 use mathlib.Core.List.{List, []}
-use Prim.Native.Nat.{ℕ, ◌≤◌, ◌<◌}
+use Prim.Native.Nat.{ℕ, ◌≤◌}
 use native.Mathlib.Omega.{arith}
 use lib.Dec.{eqb, ltb}
 use lib.ListN.{length}
-use borrow.Author.Tests.{lt-ltb, le-ltb, ltb-false, eq-eqb, ne_eqb, eqb-true}
+use borrow.Author.Tests.{ltb-false, eqb-true}
 use Rattle.model.specs.Limits.{longest_sent, reply_room}
 use Rattle.model.specs.Calls.{lent_refusal}
-use Rattle.model.proofs.LimitFacts.{reply_room_lem}
 use Rattle.p2.specs.Promise.{lent}
-
-module _ (n : ℕ) (g k c f : List ℕ) where
-  pub room_short : n < 779 → lent_refusal (lent n g k c f) ≡ 1
-  unfolding lent_refusal
-  room_short h = rw (reply_room_lem, lt-ltb n 779 h)
-
-  module _ (r : 779 ≤ n) where
-    pub guk_wrong : (length g ≡ 16 → ⊥) → lent_refusal (lent n g k c f) ≡ 2
-    unfolding lent_refusal
-    guk_wrong h = rw (reply_room_lem, le-ltb n 779 r, ne_eqb _ _ h)
-
-    module _ (eg : length g ≡ 16) where
-      pub ak_wrong : (length k ≡ 16 → ⊥) → lent_refusal (lent n g k c f) ≡ 2
-      unfolding lent_refusal
-      ak_wrong h = rw (reply_room_lem, le-ltb n 779 r, eq-eqb _ _ eg, ne_eqb _ _ h)
-
-      module _ (ek : length k ≡ 16) where
-        pub challenge_wrong : (length c ≡ 8 → ⊥) → lent_refusal (lent n g k c f) ≡ 2
-        unfolding lent_refusal
-        challenge_wrong h = rw (reply_room_lem, le-ltb n 779 r, eq-eqb _ _ eg, eq-eqb _ _ ek, ne_eqb _ _ h)
-
-        pub lent_right : length c ≡ 8 → lent_refusal (lent n g k c f) ≡ 0
-        unfolding lent_refusal
-        lent_right ec = rw (reply_room_lem, le-ltb n 779 r, eq-eqb _ _ eg, eq-eqb _ _ ek, eq-eqb _ _ ec)
 
 -- the frame is no part of it
 pub lent_told : (n : ℕ) (g k c f : List ℕ) {x : ℕ} → x ≡ lent_refusal (lent n g k c []) → lent_refusal (lent n g k c f) ≡ x

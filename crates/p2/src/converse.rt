@@ -1,4 +1,5 @@
-// An APDU on a link: whether the link is up, what the association permits, then by its tag.
+// An APDU on a link: whether the link is up, what the association permits, then by its tag. What goes down this road stays
+// apart as parameters, since docs/ARCHITECTURE.md names its functions, and each promises a definition of just these.
 ghost use Rattle.cosem.specs.Tags.{tag_in};
 ghost use Rattle.line.specs.View.{line_of};
 ghost use Rattle.protocol.specs.Decide.{by_tag, carried, conversed, released};
@@ -28,9 +29,8 @@ pub fn carry(
     requires { Ready meter out.old }
     ensures { Hears (carried (line_of meter.line) secrets client head apdu.now) meter out.old out.new result }
 {
-    let line = meter.line;
-    if !line::is_up(line, client) {
-        return alone(refuse(line, head, out));
+    if !line::is_up(meter.line, client) {
+        return alone(refuse(meter.line, head, out));
     }
     converse(meter, secrets, client, head, apdu, out)
 }
@@ -95,11 +95,9 @@ fn release(line: LineState, client: Client, head: Head, apdu: &[u8], out: &mut [
     if !cosem::is_release(apdu) {
         return except(line, head, Exception::ServiceUnknown, out);
     }
-    let next = association::ended(line, client);
-    let count = replies::send_release(out, head);
     Told {
         refusal: 0,
-        count,
-        line: next,
+        count: replies::send_release(out, head),
+        line: association::ended(line, client),
     }
 }

@@ -48,22 +48,17 @@ pub fn receive(
 }
 
 // What is refused of what is lent, whatever the meter and the frame are: 1, 2, or 0 where it is taken.
+#[tactic(auto, using(model::proofs::LimitFacts::reply_room_lem), unfolding(model::specs::Calls::lent_refusal))]
 pub fn lent_refusal(room: usize, guk: &[u8], ak: &[u8], challenge: &[u8]) -> u8
     ensures { result ≡ lent_refusal (lent room guk.now ak.now challenge.now []) }
 {
     if room < REPLY_ROOM {
-        return 1;
+        1
+    } else if guk.len() != 16 || ak.len() != 16 || challenge.len() != 8 {
+        2
+    } else {
+        0
     }
-    if guk.len() != 16 {
-        return 2;
-    }
-    if ak.len() != 16 {
-        return 2;
-    }
-    if challenge.len() != 8 {
-        return 2;
-    }
-    0
 }
 
 // Nothing goes out, and the very meter comes back.
@@ -81,19 +76,15 @@ fn refused(refusal: u8, meter: Meter) -> Received
 fn settle(heard: Heard, meter: Meter) -> Received
     ensures { result ≡ settled_received (carried_out meter heard) }
 {
-    let line = heard.line;
-    let change = heard.change;
-    let part = change.part;
-    let held = meter.body;
-    let transfer = held.transfer;
-    let left = body::left_by(change, transfer);
-    let kept = kept_transfer(line, left);
-    let body = body::changed(held, part, kept);
-    let next = Meter { line, body };
+    let left = body::left_by(heard.change, meter.body.transfer);
+    let kept = kept_transfer(heard.line, left);
     Received {
         refusal: heard.refusal,
         count: heard.count,
-        meter: next,
+        meter: Meter {
+            line: heard.line,
+            body: body::changed(meter.body, heard.change, kept),
+        },
     }
 }
 
@@ -102,9 +93,10 @@ fn kept_transfer(line: LineState, transfer: Transfer) -> Transfer
     ensures { result ≡ kept_transfer (line_of line) transfer }
 {
     if meter::is_allowed(line, transfer) {
-        return transfer;
+        transfer
+    } else {
+        picks::no_transfer()
     }
-    picks::no_transfer()
 }
 
 // A frame, on a sound meter, with enough room and keys of the right lengths.
@@ -113,8 +105,7 @@ fn hear(meter: Meter, secrets: Secrets, frame: &[u8], out: &mut [u8]) -> Heard
     ensures { Hears (heard (line_of meter.line) secrets frame.now (read_frame frame.now)) meter out.old out.new result }
 {
     let line = meter.line;
-    let read = hdlc::read_frame(frame);
-    match read {
+    match hdlc::read_frame(frame) {
         Frame::Unanswered(test) => alone(kept(hdlc::number_of(test), line)),
         Frame::Rejected(test, head) => alone(links::reject(line, head, test, out)),
         Frame::LinkUp {

@@ -1,4 +1,6 @@
 // Links: frames that are refused by FRMR or DM, links that come up and go down.
+#![tactic(auto, using(model::proofs::LimitFacts::reply_room_lem))]
+
 ghost use Rattle.std.specs.Prelude.{◌≡◌};
 ghost use Rattle.line.specs.View.{line_of};
 ghost use Rattle.protocol.specs.Rulings.{Test, dm, frame, refusal_of, reject as frmr, says};
@@ -16,10 +18,9 @@ pub fn reject(line: LineState, head: Head, test: FrameTest, out: &mut [u8]) -> T
     requires { HasRoom out.old }
     ensures { Tells (says (frame test) (frmr head test) (line_of line)) line out.old out.new result }
 {
-    let count = hdlc_write::put_frmr(out, head, test);
     Told {
         refusal: hdlc::number_of(test),
-        count,
+        count: hdlc_write::put_frmr(out, head, test),
         line,
     }
 }
@@ -29,10 +30,9 @@ pub fn refuse(line: LineState, head: Head, out: &mut [u8]) -> Told
     requires { HasRoom out.old }
     ensures { (t : Test) → refusal_of t ≡ 10 → Tells (says t (dm head) (line_of line)) line out.old out.new result }
 {
-    let count = hdlc_write::put_dm(out, head);
     Told {
         refusal: 10,
-        count,
+        count: hdlc_write::put_dm(out, head),
         line,
     }
 }
@@ -54,12 +54,10 @@ pub fn link_up(
     if association::is_held_by_p5(line, client) {
         return refuse(line, head, out);
     }
-    let next = association::with_link(line, client, true);
-    let count = hdlc_write::put_ua(out, head);
     Told {
         refusal: 0,
-        count,
-        line: next,
+        count: hdlc_write::put_ua(out, head),
+        line: association::with_link(line, client, true),
     }
 }
 
@@ -71,11 +69,9 @@ pub fn link_down(line: LineState, client: Client, head: Head, out: &mut [u8]) ->
     if !line::is_up(line, client) {
         return refuse(line, head, out);
     }
-    let next = association::with_link(line, client, false);
-    let count = hdlc_write::put_ua(out, head);
     Told {
         refusal: 0,
-        count,
-        line: next,
+        count: hdlc_write::put_ua(out, head),
+        line: association::with_link(line, client, false),
     }
 }

@@ -14,20 +14,15 @@ pub use transfers::{
     after_block, broken, clear_transfer, dated, no_transfer, numbered, rows_allow, running, whole,
 };
 
-// The rows picked, a bit for each, the lowest for the newest row; or a result code.
-#[derive(Clone, Copy)]
-pub enum Pick {
-    These { which: u16 },
-    Wrong(u8),
-}
-
 // By what a picking goes: none of the selectors, or one of them.
-#[derive(Clone, Copy)]
+#[derive(Clone, Copy, PartialEq, Eq)]
 pub enum PickingKind {
     Whole,
     Dated,
     Numbered,
 }
+
+// Flags and values beside each other: an image has each of these fields, and is written back byte for byte (WrittenBack of image).
 
 // The rows that are asked for: all of them; those later than one clock and not later than another; those from one place to
 // another. What its kind does not use is no part of it.
@@ -41,7 +36,7 @@ pub struct Picking {
 }
 
 // How far a transfer has come.
-#[derive(Clone, Copy)]
+#[derive(Clone, Copy, PartialEq, Eq)]
 pub enum Progress {
     Idle,
     Running,

@@ -8,7 +8,7 @@ ghost use Rattle.picks.specs.Sizes.{Even};
 ghost use Rattle.picks.specs.Canonical.{broken_transfer, cleared_picking, cleared_transfer, dated_picking, ended_transfer, no_transfer, numbered_picking, running_transfer, whole_picking};
 ghost use Rattle.picks.specs.Transfers.{picking_of, transfer_of};
 
-use crate::{Pick, Picking, PickingKind, Progress, Transfer, rows, sizes};
+use crate::{Picking, PickingKind, Progress, Transfer, rows, sizes};
 use model::{BLOCK_ROOM, Clock, DATA_ROOM};
 use store::Rows;
 
@@ -17,14 +17,9 @@ pub fn rows_allow(rows: Rows, columns: usize, transfer: Transfer) -> bool
     requires { Even rows columns }
     ensures { (s : Store) → s.rows ≡ entries_of rows → result ≡ rows_allow s (transfer_of transfer) }
 {
-    let progress = transfer.progress;
-    match progress {
-        Progress::Idle => true,
-        Progress::Running => {
-            let picking = transfer.picking;
-            runs_on(rows, columns, picking, transfer.block)
-        }
-        Progress::Ended => true,
+    match transfer.progress {
+        Progress::Running => runs_on(rows, columns, transfer.picking, transfer.block),
+        Progress::Idle | Progress::Ended => true,
     }
 }
 
@@ -33,14 +28,10 @@ fn runs_on(rows: Rows, columns: usize, picking: Picking, block: u32) -> bool
     requires { Even rows columns }
     ensures { (s : Store) → s.rows ≡ entries_of rows → result ≡ rows_allow s (running_at (profile (picking_of picking)) block) }
 {
-    let p = rows::pick_rows(rows, picking);
-    match p {
-        Pick::These { which } => {
-            let size = sizes::rows_size(rows, columns, which);
-            more_comes(size, block as usize)
-        }
-        Pick::Wrong(_) => false,
-    }
+    let Ok(which) = rows::pick_rows(rows, picking) else {
+        return false;
+    };
+    more_comes(sizes::rows_size(rows, columns, which), block as usize)
 }
 
 // Whether data of this size are too long for one frame, and more of them come after the block.
@@ -48,24 +39,16 @@ fn more_comes(size: usize, block: usize) -> bool
     requires { block < 4294967296 }
     ensures { result ≡ more_comes size block }
 {
-    if size <= DATA_ROOM {
-        return false;
-    }
-    if block < 1 {
-        return false;
-    }
-    BLOCK_ROOM * block < size
+    DATA_ROOM < size && 1 <= block && BLOCK_ROOM * block < size
 }
 
 // The transfer once the rows are others: one that runs is ended.
 pub fn broken(transfer: Transfer) -> Transfer
     ensures { result ≡ broken_transfer transfer }
 {
-    let progress = transfer.progress;
-    match progress {
-        Progress::Idle => transfer,
+    match transfer.progress {
         Progress::Running => ended_transfer(),
-        Progress::Ended => transfer,
+        Progress::Idle | Progress::Ended => transfer,
     }
 }
 
@@ -73,10 +56,9 @@ pub fn broken(transfer: Transfer) -> Transfer
 pub fn no_transfer() -> Transfer
     ensures { result ≡ no_transfer }
 {
-    let picking = whole();
     Transfer {
         progress: Progress::Idle,
-        picking,
+        picking: whole(),
         block: 0,
     }
 }
@@ -85,11 +67,9 @@ pub fn no_transfer() -> Transfer
 pub fn ended_transfer() -> Transfer
     ensures { result ≡ ended_transfer }
 {
-    let picking = whole();
     Transfer {
         progress: Progress::Ended,
-        picking,
-        block: 0,
+        ..no_transfer()
     }
 }
 
@@ -109,16 +89,17 @@ pub fn after_block(picking: Picking, block: u32, last: bool) -> Transfer
     ensures { transfer_of result ≡ cond last idle (running_at (profile (picking_of picking)) block) }
 {
     if last {
-        return no_transfer();
+        no_transfer()
+    } else {
+        running(picking, block)
     }
-    running(picking, block)
 }
 
 // All rows.
 pub fn whole() -> Picking
     ensures { result ≡ whole_picking }
 {
-    let none = Clock { bytes: [0u8; 12] };
+    let none = Clock { bytes: [0; 12] };
     Picking {
         kind: PickingKind::Whole,
         after: none,
@@ -136,8 +117,7 @@ pub fn dated(after: Clock, until: Clock) -> Picking
         kind: PickingKind::Dated,
         after,
         until,
-        from: 0,
-        to: 0,
+        ..whole()
     }
 }
 
@@ -145,13 +125,11 @@ pub fn dated(after: Clock, until: Clock) -> Picking
 pub fn numbered(from: u32, to: u32) -> Picking
     ensures { result ≡ numbered_picking from to }
 {
-    let none = Clock { bytes: [0u8; 12] };
     Picking {
         kind: PickingKind::Numbered,
-        after: none,
-        until: none,
         from,
         to,
+        ..whole()
     }
 }
 
@@ -159,14 +137,9 @@ pub fn numbered(from: u32, to: u32) -> Picking
 pub fn clear_transfer(transfer: Transfer) -> Transfer
     ensures { result ≡ cleared_transfer transfer }
 {
-    let progress = transfer.progress;
-    match progress {
+    match transfer.progress {
         Progress::Idle => no_transfer(),
-        Progress::Running => {
-            let p = transfer.picking;
-            let picking = clear_picking(p);
-            running(picking, transfer.block)
-        }
+        Progress::Running => running(clear_picking(transfer.picking), transfer.block),
         Progress::Ended => ended_transfer(),
     }
 }
@@ -174,14 +147,9 @@ pub fn clear_transfer(transfer: Transfer) -> Transfer
 fn clear_picking(picking: Picking) -> Picking
     ensures { result ≡ cleared_picking picking }
 {
-    let kind = picking.kind;
-    match kind {
+    match picking.kind {
         PickingKind::Whole => whole(),
-        PickingKind::Dated => {
-            let after = picking.after;
-            let until = picking.until;
-            dated(after, until)
-        }
+        PickingKind::Dated => dated(picking.after, picking.until),
         PickingKind::Numbered => numbered(picking.from, picking.to),
     }
 }

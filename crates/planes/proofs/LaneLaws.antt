@@ -12,7 +12,7 @@ use borrow.Author.Tests.{eqb-true}
 use Rattle.gf2.specs.Table.{all_below}
 use Rattle.gf2.proofs.TableLaws.{below}
 use Rattle.planes.specs.Bits.{bit_at}
-use Rattle.planes.specs.Lanes.{words_of, joined, bits_at, lane, byte_of}
+use Rattle.planes.specs.Lanes.{EachWord, words_of, joined, bits_at, lane, byte_of}
 use Rattle.planes.specs.declared.Planes.{Planes}
 use Rattle.planes.proofs.BitLaws.{bit_lt, bit_xor_lem, bit_down}
 
@@ -174,6 +174,11 @@ pub lane_each : (j k : ℕ) (p q : Planes)
     → lane j p ≡ lane k q
 unfolding lane
 lane_each j k p q e0 e1 e2 e3 e4 e5 e6 e7 = simp (e0, e1, e2, e3, e4, e5, e6, e7)
+
+-- a lane of planes whose words come each from one word, bit j from bit k
+pub lane_map : (j k : ℕ) (R : ℕ → ℕ → Type 0) (p q : Planes) → EachWord R p q → ((x y : ℕ) → R x y → bit_at j y ≡ bit_at k x) → lane j q ≡ lane k p
+lane_map j k R p q e f =
+    lane_each j k q p (f _ _ e.at0) (f _ _ e.at1) (f _ _ e.at2) (f _ _ e.at3) (f _ _ e.at4) (f _ _ e.at5) (f _ _ e.at6) (f _ _ e.at7)
 
 -- what a computed test shows of the bits of all bytes holds in each lane
 pub by_lanes : (f g : Planes → ℕ) → all_below (λ k. eqb (f (bits_of k)) (g (bits_of k))) 256 ≡ true → (j : ℕ) (p : Planes) → f (bits_at j p) ≡ g (bits_at j p)

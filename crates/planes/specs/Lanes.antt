@@ -35,6 +35,17 @@ each_word f p =
       p7 = f p.p7;
     }
 
+-- R holds of each word of p and the word of q at its place
+pub record EachWord (R : ℕ → ℕ → Type 0) (p q : Planes) : Type 0 where
+  pub at0 : R p.p0 q.p0
+  pub at1 : R p.p1 q.p1
+  pub at2 : R p.p2 q.p2
+  pub at3 : R p.p3 q.p3
+  pub at4 : R p.p4 q.p4
+  pub at5 : R p.p5 q.p5
+  pub at6 : R p.p6 q.p6
+  pub at7 : R p.p7 q.p7
+
 -- the number of eight bits, the first the lowest
 abbrev pub joined : Planes → ℕ
 joined b = ((((((b.p7 * 2 + b.p6) * 2 + b.p5) * 2 + b.p4) * 2 + b.p3) * 2 + b.p2) * 2 + b.p1) * 2 + b.p0

@@ -4,12 +4,13 @@
 
 mod moves;
 
-ghost use Rattle.std.specs.Prelude.{◌≡◌, [], ◌∷◌, ℕ, ◌/◌, ◌*◌, ◌<◌};
+ghost use Rattle.std.specs.Prelude.{◌≡◌, ℕ, ◌/◌, ◌*◌, ◌<◌};
 ghost use Rattle.std.specs.Int.Bits.{bit_xor};
-ghost use Rattle.planes.specs.Lanes.{words_of, planes_of, lane, byte_of, bytes8};
+ghost use Rattle.planes.specs.Lanes.{words_of, planes_of, EachWord, lane, byte_of, bytes8};
 ghost use Rattle.planes.specs.Moves.{Transposed, spread_byte};
 
 use moves::{by_fours, by_ones, by_twos, pair_of, thrice_more};
+use std::ops::BitXor;
 
 // Eight words: the planes of 64 bytes, or 64 bytes themselves, eight in a word.
 #[derive(Clone, Copy)]
@@ -25,40 +26,68 @@ pub struct Planes {
 }
 
 // The eight words of planes, and planes of eight words.
-pub fn words(p: Planes) -> [u64; 8]
-    ensures { result ≡ words_of p }
-{
-    [p.p0, p.p1, p.p2, p.p3, p.p4, p.p5, p.p6, p.p7]
+impl From<Planes> for [u64; 8] {
+    ghost from_gives = { λ p w. w ≡ words_of p };
+
+    fn from(p: Planes) -> [u64; 8] {
+        [p.p0, p.p1, p.p2, p.p3, p.p4, p.p5, p.p6, p.p7]
+    }
 }
 
-pub fn of_words(w: [u64; 8]) -> Planes
-    ensures { result ≡ planes_of w }
-{
-    Planes {
-        p0: w[0],
-        p1: w[1],
-        p2: w[2],
-        p3: w[3],
-        p4: w[4],
-        p5: w[5],
-        p6: w[6],
-        p7: w[7],
+impl From<[u64; 8]> for Planes {
+    ghost from_gives = { λ w p. p ≡ planes_of w };
+
+    fn from(w: [u64; 8]) -> Planes {
+        let [p0, p1, p2, p3, p4, p5, p6, p7] = w;
+        Planes {
+            p0,
+            p1,
+            p2,
+            p3,
+            p4,
+            p5,
+            p6,
+            p7,
+        }
     }
 }
 
 // The exclusive or of the bytes in each lane.
-pub fn xor(p: Planes, q: Planes) -> Planes
-    ensures { (j : ℕ) → lane j result ≡ bit_xor (lane j p) (lane j q) }
-{
-    Planes {
-        p0: p.p0 ^ q.p0,
-        p1: p.p1 ^ q.p1,
-        p2: p.p2 ^ q.p2,
-        p3: p.p3 ^ q.p3,
-        p4: p.p4 ^ q.p4,
-        p5: p.p5 ^ q.p5,
-        p6: p.p6 ^ q.p6,
-        p7: p.p7 ^ q.p7,
+impl BitXor for Planes {
+    type Output = Planes;
+
+    ghost bitxor_gives = { λ p q r. (j : ℕ) → lane j r ≡ bit_xor (lane j p) (lane j q) };
+
+    fn bitxor(self, other: Planes) -> Planes {
+        Planes {
+            p0: self.p0 ^ other.p0,
+            p1: self.p1 ^ other.p1,
+            p2: self.p2 ^ other.p2,
+            p3: self.p3 ^ other.p3,
+            p4: self.p4 ^ other.p4,
+            p5: self.p5 ^ other.p5,
+            p6: self.p6 ^ other.p6,
+            p7: self.p7 ^ other.p7,
+        }
+    }
+}
+
+impl Planes {
+    // Planes of what a function gives of each word.
+    pub fn map<F: Fn(u64) -> u64>(self, f: F) -> Planes
+        requires { F.IsAlwaysCallable f }
+        ensures { EachWord (λ x y. F.post f x y) self result }
+    {
+        Planes {
+            p0: f(self.p0),
+            p1: f(self.p1),
+            p2: f(self.p2),
+            p3: f(self.p3),
+            p4: f(self.p4),
+            p5: f(self.p5),
+            p6: f(self.p6),
+            p7: f(self.p7),
+        }
     }
 }
 
@@ -89,16 +118,7 @@ pub fn spread(e: u64, o: u64) -> Planes
 pub fn four_times(p: Planes) -> Planes
     ensures { (j : ℕ) → j < 64 → lane j result ≡ lane (j / 4 * 4) p }
 {
-    Planes {
-        p0: thrice_more(p.p0),
-        p1: thrice_more(p.p1),
-        p2: thrice_more(p.p2),
-        p3: thrice_more(p.p3),
-        p4: thrice_more(p.p4),
-        p5: thrice_more(p.p5),
-        p6: thrice_more(p.p6),
-        p7: thrice_more(p.p7),
-    }
+    p.map(thrice_more)
 }
 
 // The word of the bytes in the lanes 8 k.
@@ -113,30 +133,15 @@ pub fn gather(p: Planes) -> u64
 }
 
 // Eight bytes as a word, the first the lowest.
-pub fn pack(a: u8, b: u8, c: u8, d: u8, e: u8, f: u8, g: u8, h: u8) -> u64
-    ensures { bytes8 result ≡ a ∷ b ∷ c ∷ d ∷ e ∷ f ∷ g ∷ h ∷ [] }
+pub fn pack(b: [u8; 8]) -> u64
+    ensures { bytes8 result ≡ b }
 {
-    let w2 = (h as u64) * 256 + (g as u64);
-    let w3 = w2 * 256 + (f as u64);
-    let w4 = w3 * 256 + (e as u64);
-    let w5 = w4 * 256 + (d as u64);
-    let w6 = w5 * 256 + (c as u64);
-    let w7 = w6 * 256 + (b as u64);
-    w7 * 256 + (a as u64)
+    u64::from_le_bytes(b)
 }
 
 // The eight bytes of a word, the lowest first.
 pub fn unpack(x: u64) -> [u8; 8]
     ensures { result ≡ bytes8 x }
 {
-    [
-        (x % 256) as u8,
-        (x / 0x100 % 256) as u8,
-        (x / 0x1_0000 % 256) as u8,
-        (x / 0x100_0000 % 256) as u8,
-        (x / 0x1_0000_0000 % 256) as u8,
-        (x / 0x100_0000_0000 % 256) as u8,
-        (x / 0x1_0000_0000_0000 % 256) as u8,
-        (x / 0x100_0000_0000_0000 % 256) as u8,
-    ]
+    x.to_le_bytes()
 }

@@ -5,6 +5,8 @@ ghost use Rattle.planes.specs.Moves.{Exchanged, pair_bit};
 
 use super::Planes;
 
+// Three functions, by_ones, by_twos and by_fours, and not one by a number: each pairs other words, and one would have to look for them.
+
 // Single bits exchanged, between words 1 apart.
 pub fn by_ones(w: Planes) -> Planes
     ensures { Exchanged 1 w result }

@@ -7,6 +7,7 @@ use Prim.Native.Nat.{ℕ, ◌≤◌}
 use lib.Dec.{lit<, lit≤}
 use lib.ListN.{length}
 use borrow.Author.Tests.{le-leb}
+use Rattle.std.specs.Prelude.{Option, Some, None}
 use Rattle.wire.specs.Numbers.{length_field}
 use Rattle.model.specs.declared.Client.TheVariants.{Ciphering}
 use Rattle.model.specs.declared.CipherClient.TheVariants.{Han}
@@ -44,7 +45,7 @@ abbrev range_of : (from to : Clock) → Selection
 range_of from to = selected range_selector (range_descriptor from to)
 
 range_asked : (invoke : ℕ) (from to : Clock) → length from.bytes ≡ 12 → length to.bytes ≡ 12 → good_range from to ≡ true
-    → read_service Get (get_range invoke from to) ≡ Asks (rows_asked invoke (range_of from to))
+    → read_service Get (get_range invoke from to) ≡ Some (Asks (rows_asked invoke (range_of from to)))
 unfolding get_range
 range_asked invoke from to f t g = rows_asked_lem invoke true (range_of from to) (dated from to) (range_described from to f t g)
 

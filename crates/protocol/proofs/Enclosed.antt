@@ -8,6 +8,7 @@ use Prim.Native.Nat.{ℕ, ◌^◌, ◌≤◌, ◌<◌}
 use native.Mathlib.Omega.{arith}
 use lib.Dec.{lit<, lit≤}
 use lib.ListN.{length, replicate}
+use Rattle.std.specs.Prelude.{Option, Some, None}
 use Rattle.wire.specs.Numbers.{length_field}
 use Rattle.wire.specs.Reading.{same_bytes, skipped, expected, number_at}
 use Rattle.model.specs.declared.Client.TheVariants.{Ciphering}
@@ -135,11 +136,11 @@ module _ (c : CipherClient) (a : Lent) (m : Model) (k : ServiceKind) (counter : 
   abbrev pub Inquires : (text : List ℕ) → Inquiry → Type 0
   Inquires text q = asked_inside m.line (secrets_of a) c (head_in a) k counter text (read_service k text) ≡ asks q answer_wrap answer_line
 
-  pub inquires : (text : List ℕ) (q : Asked) → read_service k text ≡ Asks q → Inquires text (request_of m.line (Ciphering c) text q)
+  pub inquires : (text : List ℕ) (q : Asked) → read_service k text ≡ Some (Asks q) → Inquires text (request_of m.line (Ciphering c) text q)
   inquires text q r = rw r
 
   -- a numbered one, where block transfer was agreed
-  pub inquires_next : (text : List ℕ) (i n : ℕ) → read_service k text ≡ GoesOn i n → blocks_in (Ciphering c) m.line ≡ true → Inquires text (go_on i n)
+  pub inquires_next : (text : List ℕ) (i n : ℕ) → read_service k text ≡ Some (GoesOn i n) → blocks_in (Ciphering c) m.line ≡ true → Inquires text (go_on i n)
   inquires_next text i n r b = rw (r, b)
 
   module _ (text : List ℕ) (q : Inquiry) (s : sound m ≡ true) (i : Asking c a m.line k counter text) (r : Inquires text q) where
@@ -217,7 +218,7 @@ some_sends n counter text small short =
 abbrev pub profile_asked : ℕ → Asked
 profile_asked invoke = record { invoke = invoke; class = 7; wanted = Read 2 }
 
-pub profile_asked_lem : (invoke : ℕ) → read_service Get (get_profile invoke) ≡ Asks (profile_asked invoke)
+pub profile_asked_lem : (invoke : ℕ) → read_service Get (get_profile invoke) ≡ Some (Asks (profile_asked invoke))
 unfolding read_gets read_get optional_part expected skipped number_at same_bytes
 profile_asked_lem invoke = refl
 

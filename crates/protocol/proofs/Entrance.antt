@@ -9,10 +9,10 @@ use lib.Dec.{lit≤}
 use lib.ListN.{length, take, drop, get_or, length-append, length-drop}
 use lib.Seq.{take_all}
 use borrow.Author.Tests.{eq-eqb}
+use Rattle.std.specs.Prelude.{Option, Some, None}
+use Rattle.std.specs.Prelude.{Option, Some, None}
 use Rattle.wire.specs.Numbers.{number_high, length_field}
 use Rattle.wire.specs.Reading.{same_bytes, expected, length_at, number_at}
-use Rattle.wire.specs.declared.End.TheVariants.{At}
-use Rattle.wire.specs.declared.Field.TheVariants.{Found}
 use Rattle.wire.proofs.NumberLaws.{number_one}
 use Rattle.wire.proofs.ReadingLaws.{number_here, skip_here}
 use Rattle.model.specs.declared.Client.TheVariants.{Ciphering}
@@ -28,7 +28,6 @@ use Rattle.model.specs.Calls.{Lent, frame as frame_call, Outcome, decided, settl
 use Rattle.hdlc.specs.declared.Head.{Head}
 use Rattle.hdlc.specs.Replies.{apdu_frame}
 use Rattle.axdr.specs.Values.{greatest_depth, layout_of, value_within, value_end}
-use Rattle.cosem.specs.declared.Part.TheVariants.{Present}
 use Rattle.cosem.specs.declared.Tag.TheVariants.{Aarq}
 use Rattle.cosem.specs.declared.Wanted.TheVariants.{InvokeWith}
 use Rattle.cosem.specs.declared.Asked.{Asked}
@@ -37,7 +36,6 @@ use Rattle.cosem.specs.Tags.{tag_of, tag_in}
 use Rattle.cosem.specs.Requests.{action_normal, byte, asking, optional_part, last_value, read_action}
 use Rattle.cosem.proofs.RequestLaws.{name_here}
 use Rattle.acse.specs.declared.Aarq.TheVariants.{Ciphered}
-use Rattle.acse.specs.declared.InitiateRequest.TheVariants.{Accepted}
 use Rattle.acse.specs.Initiate.{keyed_request, read_request, initiate_response}
 use Rattle.acse.specs.Aarq.{ciphered_aarq, read_aarq}
 use Rattle.acse.specs.Aare.{ciphered_aare_head}
@@ -81,7 +79,7 @@ module _ (key services size : List ℕ) (sixteen : length key ≡ 16) (three : l
   unfolding keyed_initiate
   length_initiate = simp length-append (omega arith)
 
-  initiate_read : least_size longest_sent ≤ number_high size → read_request text ≡ Accepted 3 26
+  initiate_read : least_size longest_sent ≤ number_high size → read_request text ≡ Some (record { key = 3; services = 26 })
   initiate_read least = rw initiate_written (keyed_accepted key services size sixteen three two least)
 
   initiate_key : take 16 (drop 3 text) ≡ key
@@ -113,7 +111,7 @@ module _ (c : CipherClient) (title challenge envelope : List ℕ) (eight : lengt
   unfolding aarq_around tag_of
   tag_aarq = tag_first 0x60 _
 
-  aarq_read : read_aarq aarq (Ciphering c) title ≡ Ciphered 42 54
+  aarq_read : read_aarq aarq (Ciphering c) title ≡ Some (Ciphered 42 54)
   aarq_read = rw aarq_written (ciphered_accepted_lem (Ciphering c) title challenge envelope refl eight' fifty)
 
   aarq_challenge : take 8 (drop 42 aarq) ≡ challenge
@@ -170,26 +168,26 @@ module _ (c : CipherClient) (invoke : ℕ) (rest : List ℕ) (size : length rest
   length_action = omega (arith, size)
 
   -- its bytes from 11 on: method, presence, kind and length
-  byte_at : (i : ℕ) → i < 32 → number_at 1 action i ≡ Found (get_or action i 0) (i + 1)
-  byte_at i h = number_here action i 1 (omega (arith, length_action)) ∙ ap (λ (n : ℕ). Found n (i + 1)) (number_one action i (omega (arith, length_action)))
+  byte_at : (i : ℕ) → i < 32 → number_at 1 action i ≡ Some (get_or action i 0, i + 1)
+  byte_at i h = number_here action i 1 (omega (arith, length_action)) ∙ ap (λ (n : ℕ). Some (n, (i + 1))) (number_one action i (omega (arith, length_action)))
 
-  presence : number_at 1 action 12 ≡ Found 1 13
+  presence : number_at 1 action 12 ≡ Some (1, 13)
   unfolding proof_action
   presence = byte_at 12 (omega arith)
 
-  kind : number_at 1 action 13 ≡ Found 9 14
+  kind : number_at 1 action 13 ≡ Some (9, 14)
   unfolding proof_action
   kind = byte_at 13 (omega arith)
 
-  counted : number_at 1 action 14 ≡ Found 17 15
+  counted : number_at 1 action 14 ≡ Some (17, 15)
   unfolding proof_action
   counted = byte_at 14 (omega arith)
 
-  octets : length_at action 14 ≡ Found 17 15
+  octets : length_at action 14 ≡ Some (17, 15)
   unfolding length_at
   octets = rw counted
 
-  value_ends : value_end action 13 ≡ At 32
+  value_ends : value_end action 13 ≡ Some 32
   unfolding value_end greatest_depth value_within layout_of
   value_ends = rw (kind, octets) (skip_here action 15 17 (omega (arith, length_action)))
 
@@ -201,18 +199,18 @@ module _ (c : CipherClient) (invoke : ℕ) (rest : List ℕ) (size : length rest
   unfolding proof_action
   choice_stands = refl
 
-  choice : expected action 0 action_normal ≡ At 2
+  choice : expected action 0 action_normal ≡ Some 2
   choice = expect_back action 0 action_normal (omega (arith, length_action)) choice_stands
 
-  part : optional_part action_normal action ≡ Present
+  part : optional_part action_normal action ≡ Some true
   unfolding optional_part
   part = rw (choice, presence)
 
-  fields : asking action (InvokeWith (byte action 11) 13) ≡ Asks asked
+  fields : asking action (InvokeWith (byte action 11) 13) ≡ Some (Asks asked)
   unfolding proof_action
   fields = refl
 
-  action_read : read_action action ≡ Asks asked
+  action_read : read_action action ≡ Some (Asks asked)
   unfolding read_action
   action_read = rw (part, last_value_lem) fields
 

@@ -6,6 +6,7 @@ use mathlib.Core.Logic.{◌⊎◌, inl, inr, ⊎_elim}
 use mathlib.Core.List.{List}
 use Prim.Native.Nat.{ℕ, ◌+◌}
 use lib.Dec.{eqb}
+use Rattle.std.specs.Prelude.{Option, Some, None}
 use Rattle.model.specs.declared.Client.{Client}
 use Rattle.model.specs.declared.Client.TheVariants.{Verification, Ciphering}
 use Rattle.model.specs.declared.CipherClient.TheVariants.{Han}
@@ -65,7 +66,7 @@ plain_turned q b e = go q.service
 -- What H may send.
 
 -- GET is agreed, or it is an ACTION
-agreed_or_acts : {k : ServiceKind} {x : Association} → MaySend (Ciphering Han) x (DedicatedRequest k) → (text : List ℕ) (q : Asked) → read_service k text ≡ Asks q
+agreed_or_acts : {k : ServiceKind} {x : Association} → MaySend (Ciphering Han) x (DedicatedRequest k) → (text : List ℕ) (q : Asked) → read_service k text ≡ Some (Asks q)
     → (within get_service (in_force x) ≡ true) ⊎ (kind_of (service_in text q.wanted) ≡ Action)
 agreed_or_acts (enclosed_get e) text q r = inl e
 agreed_or_acts (enclosed_action e) text q r = inr (asked_kind Action text q r)
@@ -137,7 +138,7 @@ module _ (m : Model) (s : sound m ≡ true) (l : Line) (same : of_han l ≡ of_h
     agreed_there : (service : List ℕ) → within service (agreed_in (of_han m.line)) ≡ true → has_agreed service l ≡ true
     agreed_there service e = ap (λ (x : Association). within service (in_force x)) same ∙ ap (within service) (in_force_lem may) ∙ e
 
-    pub ask_kept : (text : List ℕ) (q : Asked) → read_service k text ≡ Asks q → Kept (turned (request_of m.line (Ciphering Han) text q) m.body).body.transfer
+    pub ask_kept : (text : List ℕ) (q : Asked) → read_service k text ≡ Some (Asks q) → Kept (turned (request_of m.line (Ciphering Han) text q) m.body).body.transfer
     unfolding turned requested
     ask_kept text q r = go (service_in text q.wanted) refl
       where

@@ -5,11 +5,13 @@
 use mathlib.Core.Path.{◌≡◌, refl, sym, ap, subst, ◌∙◌}
 use mathlib.Core.Bool.{Bool, true, false, cond, not, false≢true}
 use mathlib.Core.List.{List}
+use Rattle.std.specs.Prelude.{Some, None}
 use Prim.Native.Nat.{ℕ, ◌-◌, ◌≤◌, ◌<◌}
 use native.Mathlib.Omega.{arith}
 use lib.Dec.{eqb}
 use lib.ListN.{take, drop, length}
 use borrow.Author.Tests.{eqb-true, not-true, not-false}
+use Rattle.std.specs.Prelude.{Option, Some, None}
 use Rattle.model.specs.declared.Client.{Client}
 use Rattle.model.specs.declared.CipherClient.{CipherClient}
 use Rattle.model.specs.declared.Client.TheVariants.{Verification, Ciphering}
@@ -22,7 +24,6 @@ use Rattle.hdlc.specs.declared.Head.{Head}
 use Rattle.hdlc.specs.declared.Frame.{Frame}
 use Rattle.hdlc.specs.declared.Frame.TheVariants.{Unanswered, Rejected, LinkUp, LinkDown, Apdu}
 use Rattle.hdlc.specs.declared.FrameTest.{FrameTest}
-use Rattle.hdlc.specs.declared.Sender.TheVariants.{Known, Unknown as Unnamed}
 use Rattle.hdlc.specs.Layout.{ui, byte}
 use Rattle.hdlc.specs.Addresses.{address_of, sender_of}
 use Rattle.hdlc.specs.Tests.{FirstOf, meter_side, frame_tests, number_of}
@@ -36,13 +37,12 @@ use Rattle.cosem.specs.declared.Asked.{Asked}
 use Rattle.cosem.specs.declared.Exception.{Exception}
 use Rattle.cosem.specs.declared.Exception.TheVariants.{ServiceNotAllowed, ServiceUnknown}
 use Rattle.cosem.specs.declared.Reading.{Reading}
-use Rattle.cosem.specs.declared.Reading.TheVariants.{Asks, GoesOn, Malformed}
+use Rattle.cosem.specs.declared.Reading.TheVariants.{Asks, GoesOn}
 use Rattle.cosem.specs.Tags.{dedicated_tag, is_release, release_response, exception_bytes}
 use Rattle.cosem.specs.Requests.{read_action, read_service}
 use Rattle.acse.specs.declared.Aarq.{Aarq as ReadAarq}
-use Rattle.acse.specs.declared.Aarq.TheVariants.{Plain, Ciphered, Departs}
+use Rattle.acse.specs.declared.Aarq.TheVariants.{Plain, Ciphered}
 use Rattle.acse.specs.declared.InitiateRequest.{InitiateRequest}
-use Rattle.acse.specs.declared.InitiateRequest.TheVariants.{Accepted as AcceptedRequest, Departs as RequestDeparts}
 use Rattle.acse.specs.Initiate.{read_request}
 use Rattle.acse.specs.Aarq.{read_aarq}
 use Rattle.counters.specs.Window.{in_window}
@@ -75,7 +75,7 @@ pub data Leaf (l : Line) (a : Lent) : Ruling → Type 0 where
       → Leaf l a (accepted_ciphered l (secrets_of a) c (head_in a) client key proposed n)
   releases : (c : Client) → Timely a l c Rlrq → Leaf l a (says no_test (apdu (head_in a) release_response) (associates c none l))
   -- the body is asked; by a numbered request of V on no sound line (proofs/Settling)
-  serves : (q : Asked) → Timely a l Verification (PlainRequest Get) → read_service Get (apdu_in a) ≡ Asks q
+  serves : (q : Asked) → Timely a l Verification (PlainRequest Get) → read_service Get (apdu_in a) ≡ Some (Asks q)
       → Leaf l a (asks (request_of l Verification (apdu_in a) q) (wrap a.ak Verification (head_in a) 0xC0) l)
   goes_on : (invoke number : ℕ) → Timely a l Verification (PlainRequest Get) → blocks_in Verification l ≡ true
       → Leaf l a (asks (go_on invoke number) (wrap a.ak Verification (head_in a) 0xC0) l)
@@ -90,9 +90,9 @@ pub data Leaf (l : Line) (a : Lent) : Ruling → Type 0 where
   proves : (c : CipherClient) (invoke n : ℕ) {text : List ℕ} → Brings a l c GlobalAction n text → Accepted c n l → Leaf l a (proved l (secrets_of a) c (head_in a) invoke n)
   disproves : (c : CipherClient) (invoke n : ℕ) {text : List ℕ} → Brings a l c GlobalAction n text → Accepted c n l → Leaf l a (disproved l (secrets_of a) c (head_in a) invoke n)
   -- the body is asked
-  serves_inside : (c : CipherClient) (k : ServiceKind) {n : ℕ} {text : List ℕ} (q : Asked) → Brings a l c (DedicatedRequest k) n text → Accepted c n l → read_service k text ≡ Asks q
+  serves_inside : (c : CipherClient) (k : ServiceKind) {n : ℕ} {text : List ℕ} (q : Asked) → Brings a l c (DedicatedRequest k) n text → Accepted c n l → read_service k text ≡ Some (Asks q)
       → Leaf l a (asks (request_of l (Ciphering c) text q) (wrap a.ak (Ciphering c) (head_in a) (dedicated_tag k)) (advanced c (accepted c n l)))
-  goes_on_inside : (c : CipherClient) (k : ServiceKind) {n : ℕ} {text : List ℕ} (invoke number : ℕ) → Brings a l c (DedicatedRequest k) n text → Accepted c n l → read_service k text ≡ GoesOn invoke number → blocks_in (Ciphering c) l ≡ true
+  goes_on_inside : (c : CipherClient) (k : ServiceKind) {n : ℕ} {text : List ℕ} (invoke number : ℕ) → Brings a l c (DedicatedRequest k) n text → Accepted c n l → read_service k text ≡ Some (GoesOn invoke number) → blocks_in (Ciphering c) l ≡ true
       → Leaf l a (asks (go_on invoke number) (wrap a.ak (Ciphering c) (head_in a) (dedicated_tag k)) (advanced c (accepted c n l)))
 
 module _ (l : Line) (a : Lent) where
@@ -124,21 +124,21 @@ module _ (l : Line) (a : Lent) where
   leaf_released c t = by_test Is (is_release (apdu_in a)) (λ _. releases c t) (λ e. excepts malformed_apdu refl t.reaches (out.malformed_release t e))
 
   -- what the reading is, of a request that is malformed
-  misshapen : {c : Client} {r x : Reading} → x ≡ r → Misshapen l c r → Misshapen l c x
+  misshapen : {c : Client} {r x : Option Reading} → x ≡ r → Misshapen l c r → Misshapen l c x
   misshapen {c} e m = subst (Misshapen l c) (sym e) m
 
-  leaf_asked : Timely a l Verification (PlainRequest Get) → (r : Reading) → read_service Get (apdu_in a) ≡ r → Is (asked l lent Verification h (apdu_in a) r)
-  leaf_asked t Malformed e = excepts malformed_apdu refl t.reaches (out.malformed_get t (misshapen e unreadable))
-  leaf_asked t (Asks q) e = serves q t e
-  leaf_asked t (GoesOn i n) e =
+  leaf_asked : Timely a l Verification (PlainRequest Get) → (r : Option Reading) → read_service Get (apdu_in a) ≡ r → Is (asked l lent Verification h (apdu_in a) r)
+  leaf_asked t None e = excepts malformed_apdu refl t.reaches (out.malformed_get t (misshapen e unreadable))
+  leaf_asked t (Some (Asks q)) e = serves q t e
+  leaf_asked t (Some (GoesOn i n)) e =
       by_test Is (blocks_in Verification l) (goes_on i n t) (λ b. excepts malformed_apdu refl t.reaches (out.malformed_get t (misshapen e (without_the_bit b))))
 
   -- Envelopes of a client that ciphers.
 
   module _ (c : CipherClient) where
-    leaf_initiated : Timely a l (Ciphering c) Aarq → (client text : List ℕ) (n : ℕ) (r : InitiateRequest) → Is (initiated l lent c h client text n r)
-    leaf_initiated t client text n (AcceptedRequest key services) = begins c client (take 16 (drop key text)) (take 3 (drop services text)) n t
-    leaf_initiated t client text n RequestDeparts = departs (Ciphering c) t
+    leaf_initiated : Timely a l (Ciphering c) Aarq → (client text : List ℕ) (n : ℕ) (r : Option InitiateRequest) → Is (initiated l lent c h client text n r)
+    leaf_initiated t client text n (Some x) = begins c client (take 16 (drop x.key text)) (take 3 (drop x.services text)) n t
+    leaf_initiated t client text n None = departs (Ciphering c) t
 
     leaf_enclosed : Timely a l (Ciphering c) Aarq → (client : List ℕ) (o : Opened) → Is (enclosed l lent c h client o)
     leaf_enclosed t client fails = departs (Ciphering c) t
@@ -152,10 +152,10 @@ module _ (l : Line) (a : Lent) where
         let o : Brings a l c tag n text = record { timely = t; opening = b n text refl } in
         by_test Is (in_window (counters c l).accepted n) (k n text o) (drops c o)
 
-    leaf_inside : (k : ServiceKind) (n : ℕ) (text : List ℕ) → Brings a l c (DedicatedRequest k) n text → Accepted c n l → (r : Reading) → read_service k text ≡ r → Is (asked_inside l lent c h k n text r)
-    leaf_inside k n text o w Malformed e = excepts_inside malformed_apdu c refl o w (malformed_request (misshapen e unreadable))
-    leaf_inside k n text o w (Asks q) e = serves_inside c k q o w e
-    leaf_inside k n text o w (GoesOn i j) e =
+    leaf_inside : (k : ServiceKind) (n : ℕ) (text : List ℕ) → Brings a l c (DedicatedRequest k) n text → Accepted c n l → (r : Option Reading) → read_service k text ≡ r → Is (asked_inside l lent c h k n text r)
+    leaf_inside k n text o w None e = excepts_inside malformed_apdu c refl o w (malformed_request (misshapen e unreadable))
+    leaf_inside k n text o w (Some (Asks q)) e = serves_inside c k q o w e
+    leaf_inside k n text o w (Some (GoesOn i j)) e =
         by_test Is (blocks_in (Ciphering c) l) (goes_on_inside c k i j o w e) (λ b. excepts_inside malformed_apdu c refl o w (malformed_request (misshapen e (without_the_bit b))))
 
     leaf_request : (k : ServiceKind) → Timely a l (Ciphering c) (DedicatedRequest k) → Is (request_enclosed l lent c h k (apdu_in a))
@@ -164,16 +164,16 @@ module _ (l : Line) (a : Lent) where
         leaf_admitted t (opened (dedicated_keys a.ak c l) (ciphering c l).peer.title (dedicated_tag k) (apdu_in a)) _ (λ n text e. by_key e)
         (λ n text o w. leaf_inside k n text o w (read_service k text) refl)
 
-    leaf_challenged : (n : ℕ) (text : List ℕ) (q : Asked) → read_action text ≡ Asks q → Brings a l c GlobalAction n text → Accepted c n l → Is (challenged l lent c h n text q)
+    leaf_challenged : (n : ℕ) (text : List ℕ) (q : Asked) → read_action text ≡ Some (Asks q) → Brings a l c GlobalAction n text → Accepted c n l → Is (challenged l lent c h n text q)
     unfolding challenged
     leaf_challenged n text q e o w =
         by_test Is (not (is_challenge c text q)) (λ i. excepts_inside not_the_challenge c refl o w (out.not_the_challenge q e (not-true _ i))) λ _.
         by_test Is (proves_itself l lent c n text q) (λ _. proves c q.invoke n o w) (λ _. disproves c q.invoke n o w)
 
-    leaf_answered : (n : ℕ) (text : List ℕ) → Brings a l c GlobalAction n text → Accepted c n l → (r : Reading) → read_action text ≡ r → Is (answered_challenge l lent c h n text r)
-    leaf_answered n text o w Malformed e = excepts_inside malformed_apdu c refl o w (malformed_proof e)
-    leaf_answered n text o w (Asks q) e = leaf_challenged n text q e o w
-    leaf_answered n text o w (GoesOn i j) e = absurd (action_no_get (numbered_kind Action text i j e))
+    leaf_answered : (n : ℕ) (text : List ℕ) → Brings a l c GlobalAction n text → Accepted c n l → (r : Option Reading) → read_action text ≡ r → Is (answered_challenge l lent c h n text r)
+    leaf_answered n text o w None e = excepts_inside malformed_apdu c refl o w (malformed_proof e)
+    leaf_answered n text o w (Some (Asks q)) e = leaf_challenged n text q e o w
+    leaf_answered n text o w (Some (GoesOn i j)) e = absurd (action_no_get (numbered_kind Action text i j e))
 
     leaf_challenge : Timely a l (Ciphering c) GlobalAction → Is (challenge_enclosed l lent c h (apdu_in a))
     unfolding challenge_enclosed
@@ -181,13 +181,13 @@ module _ (l : Line) (a : Lent) where
         leaf_admitted t (opened (lent_keys lent) (ciphering c l).peer.title 0xCB (apdu_in a)) _ (λ n text e. by_guk e)
         (λ n text o w. leaf_answered n text o w (read_action text) refl)
 
-  leaf_associating : (c : Client) → Timely a l c Aarq → (r : ReadAarq) → Is (associating l lent c h (apdu_in a) r)
-  leaf_associating Verification t (Plain p) = associates_plain (take 3 (drop p (apdu_in a))) t
-  leaf_associating (Ciphering c) t (Plain p) = departs (Ciphering c) t
-  leaf_associating (Ciphering c) t (Ciphered d e) =
+  leaf_associating : (c : Client) → Timely a l c Aarq → (r : Option ReadAarq) → Is (associating l lent c h (apdu_in a) r)
+  leaf_associating Verification t (Some (Plain p)) = associates_plain (take 3 (drop p (apdu_in a))) t
+  leaf_associating (Ciphering c) t (Some (Plain p)) = departs (Ciphering c) t
+  leaf_associating (Ciphering c) t (Some (Ciphered d e)) =
       leaf_enclosed c t (take 8 (drop d (apdu_in a))) (opened (lent_keys lent) (ciphering c l).peer.title 0x21 (drop e (apdu_in a)))
-  leaf_associating Verification t (Ciphered d e) = departs Verification t
-  leaf_associating c t Departs = departs c t
+  leaf_associating Verification t (Some (Ciphered d e)) = departs Verification t
+  leaf_associating c t None = departs c t
 
   -- By the tag. What no client may send has no leaf.
 
@@ -219,11 +219,11 @@ module _ (l : Line) (a : Lent) where
       by_test Is (peer c l).up (λ up. leaf_conversed c (record { heard = from; carries = u; up = up })) (λ _. no_link data_while_down from refl)
 
   -- a known sender's address is its client's
-  sender_address : (c : Client) (n : ℕ) → sender_of n ≡ Known c → n ≡ address_of c
+  sender_address : (c : Client) (n : ℕ) → sender_of n ≡ Some c → n ≡ address_of c
   unfolding sender_of
   sender_address c n e = go (eqb n (address_of Verification)) refl (eqb n (address_of (Ciphering Han))) refl e
     where
-      go : (v : Bool) → eqb n (address_of Verification) ≡ v → (w : Bool) → eqb n (address_of (Ciphering Han)) ≡ w → cond v (Known Verification) (cond w (Known (Ciphering Han)) Unnamed) ≡ Known c → n ≡ address_of c
+      go : (v : Bool) → eqb n (address_of Verification) ≡ v → (w : Bool) → eqb n (address_of (Ciphering Han)) ≡ w → cond v (Some Verification) (cond w (Some (Ciphering Han)) None) ≡ Some c → n ≡ address_of c
       go true p w q k = let z : Verification ≡ c = cc in eqb-true n (address_of Verification) p ∙ ap address_of z
       go false p true q k = let z : Ciphering Han ≡ c = cc in eqb-true n (address_of (Ciphering Han)) q ∙ ap address_of z
       go false p false q k = absurd (let z : ◌≡◌ {A = ℕ} 0 1 = cc in omega arith)

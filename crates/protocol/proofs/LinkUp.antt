@@ -8,6 +8,7 @@ use Prim.Native.Nat.{ℕ, ◌+◌, ◌≤◌, ◌<◌}
 use native.Mathlib.Omega.{arith}
 use lib.ListN.{length, take, drop, length-append}
 use borrow.Author.Tests.{le-ltb, eq-eqb}
+use Rattle.std.specs.Prelude.{Option, Some, None}
 use Rattle.gf2.specs.Shift.{step as shift, steps}
 use Rattle.wire.specs.Numbers.{number_high}
 use Rattle.wire.specs.Reading.{same_bytes}
@@ -116,7 +117,7 @@ module _ (title services size : List ℕ) where
   tag_aarq = tag_first 0x60 _
 
   module _ (eight : length title ≡ 8) (three : length services ≡ 3) (two : length size ≡ 2) (enough : least_size longest_sent ≤ number_high size) where
-    aarq_read : read_aarq (aarq_of_v title services size) Verification title ≡ Plain 47
+    aarq_read : read_aarq (aarq_of_v title services size) Verification title ≡ Some (Plain 47)
     aarq_read = rw aarq_written (plain_accepted Verification title services size refl three two enough)
 
     aarq_services : take 3 (drop 47 (aarq_of_v title services size)) ≡ services

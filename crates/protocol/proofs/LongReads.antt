@@ -9,10 +9,10 @@ use lib.Dec.{eqb}
 use lib.ListN.{length, take, drop, get_or, length-drop, take-append-drop}
 use lib.Seq.{take_all, drop-cons}
 use borrow.Author.Tests.{eqb-true, lt-leb}
+use Rattle.std.specs.Prelude.{Option, Some, None}
+use Rattle.std.specs.Prelude.{Option, Some, None}
 use Rattle.wire.specs.Numbers.{high_first}
 use Rattle.wire.specs.Reading.{same_bytes, expected, number_at}
-use Rattle.wire.specs.declared.End.TheVariants.{At}
-use Rattle.wire.specs.declared.Field.TheVariants.{Found}
 use Rattle.wire.proofs.NumberLaws.{Bytes, length_high}
 use Rattle.wire.proofs.ReadingLaws.{chosen, then_at_lem, then_field_lem, ReadNumber, ReadBytes, number_read, expect_read, number_bytes, number_back}
 use Rattle.model.specs.declared.Client.TheVariants.{Ciphering}
@@ -30,10 +30,8 @@ use Rattle.model.proofs.ListLaws.{by_test}
 use Rattle.model.proofs.BlockLaws.{answer_bytes, first_bytes, first_block}
 use Rattle.model.proofs.TransferLaws.{long_begins, goes_on_lem}
 use Rattle.model.proofs.ByDate.{picked_turned}
-use Rattle.cosem.specs.declared.Part.{Part}
-use Rattle.cosem.specs.declared.Part.TheVariants.{Absent, Present, Wrong}
 use Rattle.cosem.specs.declared.Reading.{Reading}
-use Rattle.cosem.specs.declared.Reading.TheVariants.{Asks, GoesOn, Malformed}
+use Rattle.cosem.specs.declared.Reading.TheVariants.{Asks, GoesOn}
 use Rattle.cosem.specs.declared.ServiceKind.TheVariants.{Get}
 use Rattle.cosem.specs.Requests.{get_normal, get_next, byte, optional_part, last_value, get_with, read_get, read_next, read_gets, read_service}
 use Rattle.envelope.proofs.StandsLaws.{expect_back}
@@ -73,7 +71,7 @@ module _ (blocks : Bool) (a : Lent) (m : Model) (s : Selection) (p : Picking) (r
   rows_request = profile_asked (selective_in (Ciphering Han) m.line) blocks invoke s
 
   -- the line hands it to the body
-  is_asked : read_service Get (get_rows invoke s) ≡ Asks (rows_asked invoke s)
+  is_asked : read_service Get (get_rows invoke s) ≡ Some (Asks (rows_asked invoke s))
   is_asked = rows_asked_lem invoke (selective_in (Ciphering Han) m.line) s p i.means
 
   is_request : request_of m.line (Ciphering Han) (get_rows invoke s) (rows_asked invoke s) ≡ ask rows_request
@@ -160,33 +158,33 @@ module _ (invoke k : ℕ) (small : k < 256 ^ 4) where
   pub length_next : length request ≡ 7
   length_next = omega (arith, length_high 4 k)
 
-  next_choice : expected request 0 get_next ≡ At 2
+  next_choice : expected request 0 get_next ≡ Some 2
   next_choice = expect_back request 0 get_next (omega (arith, length_next)) refl
 
-  next_number_lem : number_at 4 request 3 ≡ Found k 7
+  next_number_lem : number_at 4 request 3 ≡ Some (k, 7)
   next_number_lem = number_back request 3 4 k small (omega (arith, length_next)) (take_all 4 (high_first 4 k) (omega (arith, length_high 4 k)))
 
-  pub next_asked_lem : read_service Get request ≡ GoesOn invoke k
+  pub next_asked_lem : read_service Get request ≡ Some (GoesOn invoke k)
   unfolding read_gets read_next
   next_asked_lem = rw (next_choice, next_number_lem)
 
 -- and nothing else is one
-abbrev is_numbered : Reading → Bool
-is_numbered (Asks q) = false
-is_numbered (GoesOn i n) = true
-is_numbered Malformed = false
+abbrev is_numbered : Option Reading → Bool
+is_numbered (Some (Asks q)) = false
+is_numbered (Some (GoesOn i n)) = true
+is_numbered None = false
 
 normal_none : (s : List ℕ) → is_numbered (read_get s) ≡ false
 unfolding read_get
 normal_none s = go (optional_part get_normal s)
   where
-    go : (p : Part) → is_numbered (get_with s p) ≡ false
-    go Absent = refl
-    go Present = by_test (λ (r : Reading). is_numbered r ≡ false) (last_value s 14) (λ _. refl) (λ _. refl)
-    go Wrong = refl
+    go : (p : Option Bool) → is_numbered (get_with s p) ≡ false
+    go (Some false) = refl
+    go (Some true) = by_test (λ (r : Option Reading). is_numbered r ≡ false) (last_value s 14) (λ _. refl) (λ _. refl)
+    go None = refl
 
 module _ (s : List ℕ) (bytes : Bytes s) (invoke number : ℕ) where
-  malformed_none : Malformed ≡ GoesOn invoke number → ⊥
+  malformed_none : None ≡ Some (GoesOn invoke number) → ⊥
   malformed_none e = false≢true (ap is_numbered e)
 
   -- the choice, the invoke byte and the number, to the end
@@ -198,7 +196,7 @@ module _ (s : List ℕ) (bytes : Bytes s) (invoke number : ℕ) where
       ∙ ap (λ (xs : List ℕ). 0xC0 ∷ 0x02 ∷ xs) (drop-cons s 2 0 (omega arith))
       ∙ ap (λ (xs : List ℕ). 0xC0 ∷ 0x02 ∷ get_or s 2 0 ∷ xs) (sym (take_all 4 (drop 3 s) (omega (arith, length-drop 3 s))) ∙ number_bytes 4 s 3 bytes r)
 
-  next_only : read_next s ≡ GoesOn invoke number → s ≡ next_request invoke number
+  next_only : read_next s ≡ Some (GoesOn invoke number) → s ≡ next_request invoke number
   unfolding read_next
   next_only e =
       let c = then_at_lem (expected s 0 get_next) _ malformed_none e in
@@ -209,7 +207,7 @@ module _ (s : List ℕ) (bytes : Bytes s) (invoke number : ℕ) where
       let v : f.value ≡ number = cc in
       rw i at (next_whole (expect_read s 0 get_next c.found) (number_read s 3 4 (rw v at f.found)) (eqb-true f.next (length s) h.0))
 
-  next_read_only : read_service Get s ≡ GoesOn invoke number → s ≡ next_request invoke number
+  next_read_only : read_service Get s ≡ Some (GoesOn invoke number) → s ≡ next_request invoke number
   unfolding read_gets
   next_read_only e = next_only (chosen (eqb (byte s 1) 0x02) e (λ f. false≢true (sym (normal_none s) ∙ ap is_numbered f))).1
 

@@ -8,6 +8,7 @@ use native.Mathlib.Omega.{arith}
 use lib.Dec.{eqb}
 use lib.ListN.{length, length-take, length-drop}
 use borrow.Author.Tests.{eqb-true}
+use Rattle.std.specs.Prelude.{Option, Some, None}
 use Rattle.wire.specs.Reading.{same_bytes, skipped, expected, number_at, length_at}
 use Rattle.wire.proofs.ReadingLaws.{fill_here}
 use Rattle.axdr.specs.Values.{greatest_depth, layout_of, elements_end, value_within, value_end}
@@ -59,7 +60,7 @@ rows_asked invoke s = record { invoke = invoke; class = 7; wanted = wanted_by s 
 module _ (invoke k : ℕ) where
   -- with this value
   abbrev IsRead : List ℕ → Type 0
-  IsRead v = read_service Get (get_rows invoke (selected k v)) ≡ Asks (rows_asked invoke (selected k v))
+  IsRead v = read_service Get (get_rows invoke (selected k v)) ≡ Some (Asks (rows_asked invoke (selected k v)))
 
   clocks_asked : (from to : Clock) → length from.bytes ≡ 12 → length to.bytes ≡ 12 → IsRead (range_descriptor from to)
   unfolding range_descriptor read_gets read_get optional_part last_value expected skipped number_at length_at same_bytes greatest_depth layout_of elements_end value_within value_end
@@ -88,7 +89,7 @@ abbrev is_picking : Described → Bool
 is_picking (picking p) = true
 is_picking (faulty c) = false
 
-pub rows_asked_lem : (invoke : ℕ) (belongs : Bool) (s : Selection) (p : Picking) → described belongs s ≡ picking p → read_service Get (get_rows invoke s) ≡ Asks (rows_asked invoke s)
+pub rows_asked_lem : (invoke : ℕ) (belongs : Bool) (s : Selection) (p : Picking) → described belongs s ≡ picking p → read_service Get (get_rows invoke s) ≡ Some (Asks (rows_asked invoke s))
 unfolding described
 rows_asked_lem invoke belongs all p e = profile_asked_lem invoke
 rows_asked_lem invoke belongs (selected k v) p e =

@@ -1,7 +1,7 @@
 -- `decide` and `seal` of document 01: the tests of a frame on a sound meter in its order, what goes out, and the line
 -- afterwards ("The frame", "The association", "The envelope and its counters", "What goes out"; document 02, Q-4, numbered
 -- requests). It sees the line and what is lent, and never the body: a request that passes every test is handed to it.
-use Rattle.std.specs.Prelude.{Bool, true, false, cond, not, ◌&&◌, List, [], ◌++◌, ℕ, eqb, take, drop}
+use Rattle.std.specs.Prelude.{Bool, true, false, cond, not, ◌&&◌, List, [], ◌++◌, ℕ, eqb, take, drop, Option, Some, None}
 use Rattle.model.specs.declared.Client.{Client}
 use Rattle.model.specs.declared.CipherClient.{CipherClient}
 use Rattle.model.specs.declared.Client.TheVariants.{Verification, Ciphering}
@@ -24,14 +24,13 @@ use Rattle.cosem.specs.declared.Wanted.{Wanted}
 use Rattle.cosem.specs.declared.Wanted.TheVariants.{Read, ReadSelected, Invoke, InvokeWith}
 use Rattle.cosem.specs.declared.Asked.{Asked}
 use Rattle.cosem.specs.declared.Reading.{Reading}
-use Rattle.cosem.specs.declared.Reading.TheVariants.{Asks, GoesOn, Malformed}
+use Rattle.cosem.specs.declared.Reading.TheVariants.{Asks, GoesOn}
 use Rattle.cosem.specs.declared.Exception.TheVariants.{ServiceNotAllowed, ServiceUnknown}
 use Rattle.cosem.specs.Tags.{dedicated_tag, answer_tag, tag_in, is_release, release_response, exception_bytes}
 use Rattle.cosem.specs.Requests.{read_action, read_service, name_in, requested}
-use Rattle.acse.specs.declared.Aarq.TheVariants.{Plain, Ciphered, Departs}
+use Rattle.acse.specs.declared.Aarq.TheVariants.{Plain, Ciphered}
 use Rattle.acse.specs.declared.Aarq.{Aarq as ReadAarq}
 use Rattle.acse.specs.declared.InitiateRequest.{InitiateRequest}
-use Rattle.acse.specs.declared.InitiateRequest.TheVariants.{Accepted, Departs as RequestDeparts}
 use Rattle.acse.specs.Initiate.{read_request, initiate_response}
 use Rattle.acse.specs.Aarq.{read_aarq}
 use Rattle.acse.specs.Aare.{plain_aare, ciphered_aare_head}
@@ -84,9 +83,9 @@ accepted_ciphered l a c h client key proposed counter =
     (with_counters c next.counters (associates (Ciphering c) (pending agreed key client a.challenge) l))
 
 -- by the opened initiate request of a client that ciphers
-abbrev pub initiated : Line → Secrets → CipherClient → Head → (client text : List ℕ) → (counter : ℕ) → InitiateRequest → Ruling
-initiated l a c h client text counter (Accepted k s) = accepted_ciphered l a c h client (take 16 (drop k text)) (take 3 (drop s text)) counter
-initiated l a c h client text counter RequestDeparts = refused_aarq (Ciphering c) h l
+abbrev pub initiated : Line → Secrets → CipherClient → Head → (client text : List ℕ) → (counter : ℕ) → Option InitiateRequest → Ruling
+initiated l a c h client text counter (Some x) = accepted_ciphered l a c h client (take 16 (drop x.key text)) (take 3 (drop x.services text)) counter
+initiated l a c h client text counter None = refused_aarq (Ciphering c) h l
 
 abbrev pub enclosed : Line → Secrets → CipherClient → Head → (client : List ℕ) → Opened → Ruling
 enclosed l a c h client fails = refused_aarq (Ciphering c) h l
@@ -103,10 +102,10 @@ ciphered_from l a (Ciphering c) h client envelope =
     enclosed l a c h client (opened (lent_keys a) (ciphering c l).peer.title 0x21 envelope)
 
 -- by the client's AARQ, which is plain from V alone and ciphered from a client that ciphers alone
-abbrev pub associating : Line → Secrets → Client → Head → List ℕ → ReadAarq → Ruling
-associating l a c h s (Plain p) = plain_from l c h (take 3 (drop p s))
-associating l a c h s (Ciphered d e) = ciphered_from l a c h (take 8 (drop d s)) (drop e s)
-associating l a c h s Departs = refused_aarq c h l
+abbrev pub associating : Line → Secrets → Client → Head → List ℕ → Option ReadAarq → Ruling
+associating l a c h s (Some (Plain p)) = plain_from l c h (take 3 (drop p s))
+associating l a c h s (Some (Ciphered d e)) = ciphered_from l a c h (take 8 (drop d s)) (drop e s)
+associating l a c h s None = refused_aarq c h l
 
 -- "RLRQ is 62 03 80 01 00, answered 63 03 80 01 00, plain, and the state is none"
 unfoldable pub released : Line → Client → Head → List ℕ → Ruling
@@ -128,11 +127,11 @@ abbrev pub next_asked : Line → Client → (malformed wellFormed : Ruling) → 
 next_asked l c malformed wellFormed = cond (blocks_in c l) wellFormed malformed
 
 -- a plain request
-abbrev pub asked : Line → Secrets → Client → Head → List ℕ → Reading → Ruling
-asked l a c h s Malformed = refused_malformed h l
-asked l a c h s (Asks q) = asks (request_of l c s q) (wrap a.ak Verification h 0xC0) l
+abbrev pub asked : Line → Secrets → Client → Head → List ℕ → Option Reading → Ruling
+asked l a c h s None = refused_malformed h l
+asked l a c h s (Some (Asks q)) = asks (request_of l c s q) (wrap a.ak Verification h 0xC0) l
 -- V is not offered the bit, so that on a sound line its numbered request is malformed
-asked l a c h s (GoesOn i n) = next_asked l c (refused_malformed h l) (asks (go_on i n) (wrap a.ak Verification h 0xC0) l)
+asked l a c h s (Some (GoesOn i n)) = next_asked l c (refused_malformed h l) (asks (go_on i n) (wrap a.ak Verification h 0xC0) l)
 
 -- the line after an envelope's counter has become the last accepted, and after the meter's own has gone on besides
 abbrev pub accepted : CipherClient → ℕ → Line → Line
@@ -142,11 +141,11 @@ abbrev pub advanced : CipherClient → Line → Line
 advanced c l = with_counters c (taken (counters c l)).counters l
 
 -- an opened request: its answer will take the meter's next counter, granted or denied
-abbrev pub asked_inside : Line → Secrets → CipherClient → Head → ServiceKind → (counter : ℕ) → List ℕ → Reading → Ruling
-asked_inside l a c h k counter text Malformed = refused_malformed h (accepted c counter l)
-asked_inside l a c h k counter text (Asks q) =
+abbrev pub asked_inside : Line → Secrets → CipherClient → Head → ServiceKind → (counter : ℕ) → List ℕ → Option Reading → Ruling
+asked_inside l a c h k counter text None = refused_malformed h (accepted c counter l)
+asked_inside l a c h k counter text (Some (Asks q)) =
     asks (request_of l (Ciphering c) text q) (wrap a.ak (Ciphering c) h (dedicated_tag k)) (advanced c (accepted c counter l))
-asked_inside l a c h k counter text (GoesOn i n) =
+asked_inside l a c h k counter text (Some (GoesOn i n)) =
     next_asked l (Ciphering c) (refused_malformed h (accepted c counter l))
     (asks (go_on i n) (wrap a.ak (Ciphering c) h (dedicated_tag k)) (advanced c (accepted c counter l)))
 
@@ -198,11 +197,11 @@ challenged l a c h counter text q =
     (cond (proves_itself l a c counter text q) (proved l a c h q.invoke counter)
     (disproved l a c h q.invoke counter))
 
-abbrev pub answered_challenge : Line → Secrets → CipherClient → Head → (counter : ℕ) → List ℕ → Reading → Ruling
-answered_challenge l a c h counter text Malformed = refused_malformed h (accepted c counter l)
-answered_challenge l a c h counter text (Asks q) = challenged l a c h counter text q
+abbrev pub answered_challenge : Line → Secrets → CipherClient → Head → (counter : ℕ) → List ℕ → Option Reading → Ruling
+answered_challenge l a c h counter text None = refused_malformed h (accepted c counter l)
+answered_challenge l a c h counter text (Some (Asks q)) = challenged l a c h counter text q
 -- never reached: an ACTION is no numbered request
-answered_challenge l a c h counter text (GoesOn i n) = refused_malformed h (accepted c counter l)
+answered_challenge l a c h counter text (Some (GoesOn i n)) = refused_malformed h (accepted c counter l)
 
 -- Envelopes of a client that ciphers.
 

@@ -3,7 +3,7 @@
 -- read is too long; and what frames forget a transfer. Proved in proofs/InBlocks and proofs/Forgotten, and that there are such meters and
 -- frames in proofs/BlocksHappen. That the blocks joined are the data is the model's to say (`JoinedAreTheData`, at this protocol in
 -- proofs/Claim), of the requests told of here.
-use Rattle.std.specs.Prelude.{◌≡◌, Bool, true, false, cond, List, [], ◌∷◌, ℕ, ◌+◌, ◌*◌, ◌^◌, ◌<◌, eqb, leb, length, take, drop, get_or}
+use Rattle.std.specs.Prelude.{◌≡◌, Bool, true, false, cond, List, [], ◌∷◌, ℕ, ◌+◌, ◌*◌, ◌^◌, ◌<◌, eqb, leb, length, take, drop, get_or, Option, Some, None}
 use Rattle.wire.specs.Numbers.{high_first}
 use Rattle.model.specs.declared.Client.TheVariants.{Verification, Ciphering}
 use Rattle.model.specs.declared.CipherClient.TheVariants.{Han}
@@ -117,7 +117,7 @@ NoOtherNumbered =
     (s : List ℕ)
     → ((i : ℕ) → get_or s i 0 < 256)
     → (invoke number : ℕ)
-    → read_service Get s ≡ GoesOn invoke number
+    → read_service Get s ≡ Some (GoesOn invoke number)
     → s ≡ next_request invoke number
 
 -- of these data, block k + 1, and whether any come after it
@@ -291,7 +291,7 @@ pub record NoneTooLong : Type 0 where
       → length m.body.device ≡ 16
       → blocks_in (Ciphering Han) m.line ≡ true
       → Asking Han a m.line Get counter text
-      → read_service Get text ≡ Asks q
+      → read_service Get text ≡ Some (Asks q)
       → opened (request_keys Han a m.line) m.line.title 0xD4 (apdu_of (outcome a m).sent) ≡ opens sent (too_long i)
       → ⊥
 

@@ -4,7 +4,7 @@
 -- counter". Proved in proofs/LinkUp, proofs/Entrance, proofs/Enclosed and proofs/SecondRow. Of the record number speak `DueTicks` and
 -- `NumberStays` of the model, proved at this protocol in proofs/Claim. What is let in is told with document 02's steps of counters (Q-3), and
 -- so is what is not: a window that takes any counter, and a proof that proves nothing.
-use Rattle.std.specs.Prelude.{◌≡◌, true, false, List, [], ◌∷◌, ◌++◌, ℕ, ◌-◌, ◌^◌, ◌≤◌, ◌<◌, length, take}
+use Rattle.std.specs.Prelude.{◌≡◌, true, false, List, [], ◌∷◌, ◌++◌, ℕ, ◌-◌, ◌^◌, ◌≤◌, ◌<◌, length, take, Option, Some, None}
 use Rattle.wire.specs.Numbers.{number_high}
 use Rattle.model.specs.declared.Client.{Client}
 use Rattle.model.specs.declared.Client.TheVariants.{Verification, Ciphering}
@@ -329,7 +329,7 @@ NextCounter =
     (c : CipherClient) (a : Lent) (m : Model) (k : ServiceKind) (counter : ℕ) (text : List ℕ) (q : Asked)
     → sound m ≡ true
     → Asking c a m.line k counter text
-    → read_service k text ≡ Asks q
+    → read_service k text ≡ Some (Asks q)
     → outcome a m ≡ answer_to c a m k counter text q
 
 -- A window that takes any counter: with one outside nothing goes out, the number is 7, and the association has ended.
@@ -348,7 +348,7 @@ pub record OverTheTop : Type 0 where
       → sound m ≡ true
       → (counters c m.line).accepted ≡ 4294967290
       → Sending c a m.line k 5 text
-      → read_service k text ≡ Asks q
+      → read_service k text ≡ Some (Asks q)
       → outcome a m ≡ answer_to c a m k 5 text q
   pub fails :
       (c : CipherClient) (a : Lent) (m : Model) (k : ServiceKind) (text : List ℕ)
@@ -366,7 +366,7 @@ pub record OverTheTopHappens : Type 0 where
   pub again : Lent
   pub is_sound : sound meter ≡ true
   pub last : (counters Han meter.line).accepted ≡ 4294967290
-  pub reads : read_service Get text ≡ Asks asked
+  pub reads : read_service Get text ≡ Some (Asks asked)
   pub goes_on : Sending Han later meter.line Get 5 text
   pub repeats : Sending Han again meter.line Get 4294967290 text
 

@@ -3,7 +3,7 @@
 -- itself says, and a statement of its own for 7 (`Dropped`) and for 12 (`LastAccepted`, by `Excepting`), of which it also tells
 -- which exception goes out; what a client may send when is told here apart from `Decide` (`MaySend`). `Answers` alone asks something of the meter: that its own title, which an AARE holds, has its 8 bytes; a longer one would
 -- not fit the frame. Proved in proofs/Outcomes and proofs/Framed, by proofs/Leaves.
-use Rattle.std.specs.Prelude.{◌≡◌, Bool, true, false, cond, List, [], ◌∷◌, ℕ, ◌-◌, ◌≤◌, length, take}
+use Rattle.std.specs.Prelude.{◌≡◌, Bool, true, false, cond, List, [], ◌∷◌, ℕ, ◌-◌, ◌≤◌, length, take, Option, Some, None}
 use Rattle.wire.specs.Reading.{part}
 use Rattle.model.specs.declared.Client.{Client}
 use Rattle.model.specs.declared.CipherClient.{CipherClient}
@@ -26,7 +26,7 @@ use Rattle.cosem.specs.declared.ServiceKind.{ServiceKind}
 use Rattle.cosem.specs.declared.ServiceKind.TheVariants.{Get, Action}
 use Rattle.cosem.specs.declared.Asked.{Asked}
 use Rattle.cosem.specs.declared.Reading.{Reading}
-use Rattle.cosem.specs.declared.Reading.TheVariants.{Asks, GoesOn, Malformed}
+use Rattle.cosem.specs.declared.Reading.TheVariants.{Asks, GoesOn}
 use Rattle.cosem.specs.declared.Exception.{Exception}
 use Rattle.cosem.specs.declared.Exception.TheVariants.{ServiceNotAllowed, ServiceUnknown}
 use Rattle.cosem.specs.Tags.{dedicated_tag, answer_tag, tag_in, is_release, exception_bytes}
@@ -123,9 +123,9 @@ abbrev pub Outside : CipherClient → ℕ → Line → Type 0
 Outside c n l = in_window (counters c l).accepted n ≡ false
 
 -- a request that is malformed: it cannot be read; or it is a numbered one and "without the bit it stays malformed"
-pub data Misshapen (l : Line) (c : Client) : Reading → Type 0 where
-  unreadable : Misshapen l c Malformed
-  without_the_bit : {invoke number : ℕ} → blocks_in c l ≡ false → Misshapen l c (GoesOn invoke number)
+pub data Misshapen (l : Line) (c : Client) : Option Reading → Type 0 where
+  unreadable : Misshapen l c None
+  without_the_bit : {invoke number : ℕ} → blocks_in c l ≡ false → Misshapen l c (Some (GoesOn invoke number))
 
 -- Exceptions: which goes out, and when. Each test stands here with those before it passed.
 
@@ -140,10 +140,10 @@ pub data Excepted (a : Lent) (l : Line) (c : Client) : Exception → Type 0 wher
 
 -- by the text of an envelope that opened with this tag
 pub data ExceptedInside (l : Line) (c : CipherClient) (text : List ℕ) : Tag → Exception → Type 0 where
-  malformed_proof : read_action text ≡ Malformed → ExceptedInside l c text GlobalAction ServiceUnknown
+  malformed_proof : read_action text ≡ None → ExceptedInside l c text GlobalAction ServiceUnknown
   malformed_request : {k : ServiceKind} → Misshapen l (Ciphering c) (read_service k text) → ExceptedInside l c text (DedicatedRequest k) ServiceUnknown
   -- "then, while pending, an ACTION other than the challenge's, D8 01 01"
-  not_the_challenge : (q : Asked) → read_action text ≡ Asks q → is_challenge c text q ≡ false → ExceptedInside l c text GlobalAction ServiceNotAllowed
+  not_the_challenge : (q : Asked) → read_action text ≡ Some (Asks q) → is_challenge c text q ≡ false → ExceptedInside l c text GlobalAction ServiceNotAllowed
 
 -- 12: what goes out, and the meter afterwards: "an opened envelope's counter becomes the last accepted", and nothing else
 pub data Excepting (a : Lent) (m : Model) : List ℕ → Model → Type 0 where

@@ -1,7 +1,7 @@
 -- What a frame on a sound meter comes to: the test of document 01 that it fails first, or none; what goes out; and the line
 -- afterwards. The number of a refusal follows from the test; what goes out stands beside the test in specs/Decide. Refusals 1 to 3
 -- are tested before, and a request that the body denies is refused by the model.
-use Rattle.std.specs.Prelude.{List, [], ◌∷◌, ◌++◌, ℕ}
+use Rattle.std.specs.Prelude.{List, [], ◌∷◌, ◌++◌, ℕ, None, Err}
 use Rattle.model.specs.declared.CipherClient.{CipherClient}
 use Rattle.model.specs.declared.Client.{Client}
 use Rattle.model.specs.State.{Line}
@@ -17,8 +17,7 @@ use Rattle.material.specs.Material.{Keys, keys_from}
 use Rattle.envelope.specs.Layout.{sealed_envelope}
 use Rattle.envelope.specs.Challenge.{proof_value}
 use Rattle.envelope.specs.Opening.{opening_refusal, admission_refusal}
-use Rattle.envelope.specs.declared.Opening.TheVariants.{Fails}
-use Rattle.envelope.specs.declared.Admission.TheVariants.{Unopened, OutsideWindow}
+use Rattle.envelope.specs.declared.Unadmitted.TheVariants.{Unopened, OutsideWindow}
 use Rattle.hdlc.specs.Replies.{ua_frame, dm_frame, frmr_frame, apdu_frame}
 
 -- the tests in document 01's order, frames' own first; `none` is no failing test
@@ -41,9 +40,9 @@ refusal_of data_while_down = 10
 refusal_of unknown_tag = 12
 refusal_of tag_not_permitted = 12
 refusal_of bit_not_agreed = 12
-refusal_of aarq_not_accepted = opening_refusal Fails
-refusal_of envelope_unopened = admission_refusal Unopened
-refusal_of outside_window = admission_refusal OutsideWindow
+refusal_of aarq_not_accepted = opening_refusal None
+refusal_of envelope_unopened = admission_refusal (Err Unopened)
+refusal_of outside_window = admission_refusal (Err OutsideWindow)
 refusal_of malformed_apdu = 12
 refusal_of not_the_challenge = 12
 refusal_of wrong_proof = 13

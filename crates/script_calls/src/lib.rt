@@ -5,222 +5,185 @@
 
 pub mod session;
 
-use call_tests::Finding;
 use diagnosis::Explained;
-use hdlc::Place;
+use diagnosis_write::LONGEST_LINE;
 use meter::{Changed, Meter};
-use model::Clock;
-use script_text::fields::Cursor;
-use script_text::verbs::{Spoken, Verb};
-use script_text::{fields, lines, lists, verbs};
+use model::{Clock, Name, Register};
+use script_text::answer::Answers;
+use script_text::fields::{ByteString, Fields, MOST, Unread};
+use script_text::verbs::Verb;
+use std::fmt;
 
-// The most bytes of a byte string and of the reply buffer.
-const MOST: usize = 4096;
+// Places of a list to which nothing was read.
+const NO_NAME: Name = Name { bytes: [0; 6] };
 
-// What kind of line it is: a call on the current meter, one that makes another the current one, or a frame that is explained.
+const NO_REGISTER: Register = Register {
+    name: NO_NAME,
+    readable: false,
+    scaler: 0,
+    unit: 0,
+    value: 0,
+};
+
+// What kind of line it is: a call on the current meter, one that makes another the current one, or a frame that is explained, and
+// what is told of it.
 #[derive(Clone, Copy)]
 pub enum Kind {
     Call,
     Meter,
-    Explanation,
+    Explanation(Explained),
 }
 
-// What a line comes to: its kind, where it can be read; the meter; the column of the first character that cannot be read, or 0; the
-// number of the refusal, or 0; how many bytes of the reply buffer are the reply; and what is told of a frame that is explained.
+// What a line comes to: its kind; the meter; the number of the refusal, or 0, as answers have it; and how many bytes of the reply
+// buffer are the reply.
 #[derive(Clone, Copy)]
 pub struct Done {
     pub kind: Kind,
     pub meter: Meter,
-    pub column: usize,
     pub refusal: u8,
     pub count: usize,
-    pub explained: Explained,
 }
 
-// The call of a line, or of the first characters of one that is too long.
-pub fn made(meter: Meter, line: &[u8], is_whole: bool, reply: &mut [u8]) -> Done {
-    if !is_whole {
-        return unread(meter, fields::wrong(lines::LONGEST));
-    }
-    let spoken = verbs::verb_of(line);
-    let c = spoken.cursor;
-    let verb = spoken.verb;
-    match verb {
-        Verb::Frame => frame(meter, line, c, reply, false),
-        Verb::Explain => frame(meter, line, c, reply, true),
-        Verb::Image => take_image(meter, line, c),
-        Verb::Dump => dump(meter, line, c, reply),
-        _ => by_owner(meter, line, spoken, 0),
+// What a frame call gets beside the meter: what is lent to it, and the frame.
+#[derive(Drop)]
+struct Given {
+    guk: ByteString,
+    ak: ByteString,
+    challenge: ByteString,
+    room: usize,
+    frame: ByteString,
+}
+
+// The meter before a line has given one: its name and titles are all zero.
+pub fn unnamed() -> Meter {
+    Meter::new([0; 16], [0; 8], [0; 8], [0; 8])
+}
+
+// The call of a line.
+pub fn made(meter: Meter, line: &[u8], reply: &mut [u8]) -> Result<Done, Unread> {
+    let mut fields = Fields::new(line);
+    match fields.verb()? {
+        Verb::Frame => frame(meter, fields, reply),
+        Verb::Explain => explanation(meter, fields),
+        Verb::Image => take_image(meter, fields),
+        Verb::Dump => dump(meter, fields, reply),
+        verb => by_owner(meter, verb, fields, 0),
     }
 }
 
 // What is told of the frame of a line, received or explained; of any other line nothing, and no call is made.
-pub fn explained(meter: Meter, line: &[u8], is_whole: bool) -> Done {
-    if !is_whole {
-        return unread(meter, fields::wrong(lines::LONGEST));
-    }
-    let mut none = [0u8; 0];
-    let spoken = verbs::verb_of(line);
-    let c = spoken.cursor;
-    let verb = spoken.verb;
-    match verb {
-        Verb::Frame => frame(meter, line, c, &mut none, true),
-        Verb::Explain => frame(meter, line, c, &mut none, true),
-        _ => without_reply(0, meter),
+pub fn explained(meter: Meter, line: &[u8]) -> Result<Option<Explained>, Unread> {
+    let mut fields = Fields::new(line);
+    match fields.verb()? {
+        Verb::Frame | Verb::Explain => Ok(Some(explain(meter, &read_given(fields)?))),
+        _ => Ok(None),
     }
 }
 
 // The owner's call of a line. A value that it sets is greater by `extra` than the line has it.
-pub fn owned(meter: Meter, line: &[u8], extra: u32) -> Done {
-    by_owner(meter, line, verbs::verb_of(line), extra)
+pub fn owned(meter: Meter, line: &[u8], extra: u32) -> Result<Done, Unread> {
+    let mut fields = Fields::new(line);
+    let verb = fields.verb()?;
+    by_owner(meter, verb, fields, extra)
 }
 
-fn by_owner(meter: Meter, line: &[u8], spoken: Spoken, extra: u32) -> Done {
-    let c = spoken.cursor;
-    let verb = spoken.verb;
+fn by_owner(meter: Meter, verb: Verb, fields: Fields, extra: u32) -> Result<Done, Unread> {
     match verb {
-        Verb::New => new(meter, line, c),
-        Verb::Registers => registers(meter, line, c),
-        Verb::Value => value(meter, line, c, extra),
-        Verb::Columns => columns(meter, line, c),
-        Verb::Period => period(meter, line, c),
-        Verb::Tick => tick(meter, line, c),
-        Verb::P5 => p5(meter, line, c),
-        Verb::Power => power(meter, line, c),
-        _ => unread(meter, c),
+        Verb::New => new(fields),
+        Verb::Registers => registers(meter, fields),
+        Verb::Value => value(meter, fields, extra),
+        Verb::Columns => columns(meter, fields),
+        Verb::Period => period(meter, fields),
+        Verb::Tick => tick(meter, fields),
+        Verb::P5 => p5(meter, fields),
+        Verb::Power => power(meter, fields),
+        Verb::Frame | Verb::Image | Verb::Dump | Verb::Explain => Err(fields.unread()),
     }
 }
 
-fn new(meter: Meter, line: &[u8], from: Cursor) -> Done {
-    let mut name = [0u8; 16];
-    let a = fields::fixed(line, from, b' ', &mut name);
-    let mut title = [0u8; 8];
-    let b = fields::fixed(line, a, b' ', &mut title);
-    let mut verification = [0u8; 8];
-    let c = fields::fixed(line, b, b' ', &mut verification);
-    let mut han = [0u8; 8];
-    let d = fields::fixed(line, c, b' ', &mut han);
-    let end = fields::end(line, d);
-    if !end.good {
-        return unread(meter, end);
-    }
-    replaced(0, Meter::new(name, title, verification, han))
+fn new(mut fields: Fields) -> Result<Done, Unread> {
+    let name = fields.fixed(b' ')?;
+    let title = fields.fixed(b' ')?;
+    let verification = fields.fixed(b' ')?;
+    let han = fields.fixed(b' ')?;
+    fields.end()?;
+    Ok(replaced(0, Meter::new(name, title, verification, han)))
 }
 
-fn registers(meter: Meter, line: &[u8], from: Cursor) -> Done {
-    let list = lists::registers(line, from);
-    let end = fields::end(line, list.cursor);
-    if !end.good {
-        return unread(meter, end);
-    }
-    let items = list.items;
-    changed(meter.give_registers(items, list.count))
+fn registers(meter: Meter, mut fields: Fields) -> Result<Done, Unread> {
+    let mut items = [NO_REGISTER; 16];
+    let count = fields.list(&mut items, Fields::register)?;
+    fields.end()?;
+    Ok(changed(meter.give_registers(items, count)))
 }
 
-fn value(meter: Meter, line: &[u8], from: Cursor, extra: u32) -> Done {
-    let named = lists::name(line, from);
-    let number = fields::decimal(line, named.cursor, b' ', u32::MAX - extra);
-    let end = fields::end(line, number.cursor);
-    if !end.good {
-        return unread(meter, end);
-    }
-    let name = named.name;
-    changed(meter.set_value(name, number.value + extra))
+fn value(meter: Meter, mut fields: Fields, extra: u32) -> Result<Done, Unread> {
+    let name = fields.name()?;
+    let value = fields.decimal(b' ', u32::MAX - extra)?;
+    fields.end()?;
+    Ok(changed(meter.set_value(name, value + extra)))
 }
 
-fn columns(meter: Meter, line: &[u8], from: Cursor) -> Done {
-    let list = lists::names(line, from);
-    let end = fields::end(line, list.cursor);
-    if !end.good {
-        return unread(meter, end);
-    }
-    let items = list.items;
-    changed(meter.set_columns(items, list.count))
+fn columns(meter: Meter, mut fields: Fields) -> Result<Done, Unread> {
+    let mut items = [NO_NAME; 16];
+    let count = fields.list(&mut items, Fields::name)?;
+    fields.end()?;
+    Ok(changed(meter.set_columns(items, count)))
 }
 
-fn period(meter: Meter, line: &[u8], from: Cursor) -> Done {
-    let number = fields::decimal(line, from, b' ', 65535);
-    let end = fields::end(line, number.cursor);
-    if !end.good {
-        return unread(meter, end);
-    }
-    changed(meter.set_period(number.value))
+fn period(meter: Meter, mut fields: Fields) -> Result<Done, Unread> {
+    let seconds = fields.decimal(b' ', 65535)?;
+    fields.end()?;
+    Ok(changed(meter.set_period(seconds)))
 }
 
-fn tick(meter: Meter, line: &[u8], from: Cursor) -> Done {
-    let mut bytes = [0u8; 12];
-    let a = fields::fixed(line, from, b' ', &mut bytes);
-    let end = fields::end(line, a);
-    if !end.good {
-        return unread(meter, end);
-    }
-    changed(meter.tick(Clock { bytes }))
+fn tick(meter: Meter, mut fields: Fields) -> Result<Done, Unread> {
+    let bytes = fields.fixed(b' ')?;
+    fields.end()?;
+    Ok(changed(meter.tick(Clock { bytes })))
 }
 
-fn p5(meter: Meter, line: &[u8], from: Cursor) -> Done {
-    let flag = fields::flag(line, from, b' ');
-    let end = fields::end(line, flag.cursor);
-    if !end.good {
-        return unread(meter, end);
-    }
-    changed(meter.set_p5(flag.value == 1))
+fn p5(meter: Meter, mut fields: Fields) -> Result<Done, Unread> {
+    let flag = fields.flag(b' ')?;
+    fields.end()?;
+    Ok(changed(meter.set_p5(flag)))
 }
 
-fn power(meter: Meter, line: &[u8], from: Cursor) -> Done {
-    let end = fields::end(line, from);
-    if !end.good {
-        return unread(meter, end);
-    }
-    changed(meter.power_up())
+fn power(meter: Meter, fields: Fields) -> Result<Done, Unread> {
+    fields.end()?;
+    Ok(changed(meter.power_up()))
 }
 
-// A frame with what is lent to its call, received or only explained.
-fn frame(meter: Meter, line: &[u8], from: Cursor, reply: &mut [u8], is_explained: bool) -> Done {
-    let mut guk = [0u8; MOST];
-    let a = fields::bytes(line, from, &mut guk);
-    let mut ak = [0u8; MOST];
-    let b = fields::bytes(line, a.cursor, &mut ak);
-    let mut challenge = [0u8; MOST];
-    let c = fields::bytes(line, b.cursor, &mut challenge);
-    let room = fields::decimal(line, c.cursor, b' ', MOST as u32);
-    let mut frame = [0u8; MOST];
-    let f = fields::bytes(line, room.cursor, &mut frame);
-    let end = fields::end(line, f.cursor);
-    if !end.good {
-        return unread(meter, end);
-    }
-    let room = room.value as usize;
-    let frame = part(&frame, f.count);
-    let guk = part(&guk, a.count);
-    let ak = part(&ak, b.count);
-    let challenge = part(&challenge, c.count);
-    if is_explained {
-        return explain(meter, frame, guk, ak, challenge, room);
-    }
-    receive(meter, frame, guk, ak, challenge, room, reply)
+fn read_given(mut fields: Fields) -> Result<Given, Unread> {
+    let guk = fields.byte_string()?;
+    let ak = fields.byte_string()?;
+    let challenge = fields.byte_string()?;
+    let room = fields.decimal(b' ', MOST as u32)? as usize;
+    let frame = fields.byte_string()?;
+    fields.end()?;
+    Ok(Given {
+        guk,
+        ak,
+        challenge,
+        room,
+        frame,
+    })
 }
 
-// What is told of a frame call; the meter stays as it is.
-fn explain(
-    meter: Meter,
-    frame: &[u8],
-    guk: &[u8],
-    ak: &[u8],
-    challenge: &[u8],
-    room: usize,
-) -> Done {
-    let explained = diagnosis::explain(meter, frame, guk, ak, challenge, room);
-    Done {
-        kind: Kind::Explanation,
+fn frame(meter: Meter, fields: Fields, reply: &mut [u8]) -> Result<Done, Unread> {
+    let g = read_given(fields)?;
+    Ok(receive(
         meter,
-        column: 0,
-        refusal: explained.refusal,
-        count: 0,
-        explained,
-    }
+        g.frame.as_slice(),
+        g.guk.as_slice(),
+        g.ak.as_slice(),
+        g.challenge.as_slice(),
+        g.room,
+        reply,
+    ))
 }
 
-// The frame call, with so much of the reply buffer lent.
+// The frame call, with so much of the reply buffer lent. Its arguments are those of `p2::receive`, and so no struct.
 pub fn receive(
     meter: Meter,
     frame: &[u8],
@@ -231,29 +194,50 @@ pub fn receive(
     reply: &mut [u8],
 ) -> Done {
     let r = p2::receive(meter, frame, guk, ak, challenge, start_of(reply, room));
-    let next = r.meter;
-    replied(next, r.refusal, r.count)
+    called(r.meter, r.refusal, r.count)
 }
 
-// The bytes that were read of a byte string.
-fn part(s: &[u8; MOST], n: usize) -> &[u8] {
-    text::first(s, n)
+// What is told of a frame call; the meter stays as it is.
+fn explanation(meter: Meter, fields: Fields) -> Result<Done, Unread> {
+    let explained = explain(meter, &read_given(fields)?);
+    Ok(Done {
+        kind: Kind::Explanation(explained),
+        meter,
+        refusal: explained.refusal,
+        count: 0,
+    })
 }
 
-fn take_image(meter: Meter, line: &[u8], from: Cursor) -> Done {
-    let mut bytes = [0u8; MOST];
-    let a = fields::bytes(line, from, &mut bytes);
-    let end = fields::end(line, a.cursor);
-    if !end.good {
-        return unread(meter, end);
-    }
-    let read = image::read_image(part(&bytes, a.count));
-    let status = read.status;
-    let n = image::refusal_of(status);
-    if n != 0 {
-        return replaced(n, meter);
-    }
-    replaced(0, read.meter)
+fn explain(meter: Meter, g: &Given) -> Explained {
+    diagnosis::explain(
+        meter,
+        g.frame.as_slice(),
+        g.guk.as_slice(),
+        g.ak.as_slice(),
+        g.challenge.as_slice(),
+        g.room,
+    )
+}
+
+fn take_image(meter: Meter, mut fields: Fields) -> Result<Done, Unread> {
+    let bytes = fields.byte_string()?;
+    fields.end()?;
+    Ok(match image::read_image(bytes.as_slice()) {
+        Ok(read) => replaced(0, read),
+        Err(fault) => replaced(fault.number(), meter),
+    })
+}
+
+fn dump(meter: Meter, fields: Fields, reply: &mut [u8]) -> Result<Done, Unread> {
+    fields.end()?;
+    let _ = image_write::write_image(meter.cleared(), start_of(reply, image::SIZE));
+    Ok(called(meter, 0, image::SIZE))
+}
+
+// The first `n` bytes of the reply buffer, or all where there are fewer.
+fn start_of(reply: &mut [u8], n: usize) -> &mut [u8] {
+    let count = n.min(reply.len());
+    &mut reply[..count]
 }
 
 // A meter that is the current one from here on, or the one that stays where another is refused.
@@ -261,64 +245,34 @@ fn replaced(refusal: u8, meter: Meter) -> Done {
     Done {
         kind: Kind::Meter,
         meter,
-        column: 0,
         refusal,
         count: 0,
-        explained: nothing_told(),
     }
-}
-
-fn dump(meter: Meter, line: &[u8], from: Cursor, reply: &mut [u8]) -> Done {
-    let end = fields::end(line, from);
-    if !end.good {
-        return unread(meter, end);
-    }
-    image_write::write_image(meter.cleared(), start_of(reply, image::SIZE));
-    replied(meter, 0, image::SIZE)
-}
-
-// The first `n` bytes of the reply buffer, or all where there are fewer.
-fn start_of(reply: &mut [u8], n: usize) -> &mut [u8] {
-    if n < reply.len() {
-        &mut reply[..n]
-    } else {
-        reply
-    }
-}
-
-// The meter as it is, and the column of a wrong cursor.
-fn unread(meter: Meter, wrong: Cursor) -> Done {
-    let mut done = without_reply(0, meter);
-    done.column = lines::column(wrong.at);
-    done
 }
 
 fn changed(r: Changed) -> Done {
-    let meter = r.meter;
-    without_reply(r.refusal, meter)
-}
-
-// A call without a reply.
-fn without_reply(refusal: u8, meter: Meter) -> Done {
-    replied(meter, refusal, 0)
+    called(r.meter, r.refusal, 0)
 }
 
 // A call with so many bytes of reply.
-fn replied(meter: Meter, refusal: u8, count: usize) -> Done {
+fn called(meter: Meter, refusal: u8, count: usize) -> Done {
     Done {
         kind: Kind::Call,
         meter,
-        column: 0,
         refusal,
         count,
-        explained: nothing_told(),
     }
 }
 
-fn nothing_told() -> Explained {
-    Explained {
-        refusal: 0,
-        finding: Finding::Passes,
-        place: Place::Nowhere,
-    }
+// The line that tells of a frame.
+pub fn put_explained<P: Print>(answers: &mut Answers<P>, explained: Explained) -> fmt::Result {
+    let mut text = [0u8; LONGEST_LINE];
+    let n = diagnosis_write::put_line(
+        &mut text,
+        0,
+        explained.refusal,
+        explained.finding,
+        explained.place,
+    );
+    answers.put_text(text::first(&text, n))
 }

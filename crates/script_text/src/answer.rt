@@ -1,5 +1,10 @@
 // The answer to a line, written into a buffer that is written out, to standard output or what stands in its place, whenever it
-// is full, and when the session asks for it. Once writing has failed, answers are still put into the buffer and go nowhere.
+// is full, and when the session asks for it.
+ghost use Rattle.std.specs.Prelude.{◌≡◌, ◌≤◌, OnOk};
+
+use crate::fields::Unread;
+use std::fmt;
+use std::fmt::Write;
 use text::first;
 
 // How many bytes the buffer has.
@@ -10,122 +15,84 @@ pub const REPLY: usize = 4096;
 
 pub const FILL: u8 = 0xA5;
 
-// How many bytes of the buffer wait to be written out, and whether writing failed.
-#[derive(Clone, Copy)]
-pub struct Output {
-    pub used: usize,
-    pub failed: bool,
+// Answers, and how many bytes of them wait to be written out: an array and a count, since nothing here is on the heap. Where writing
+// fails, no more is to be written.
+#[derive(Drop)]
+pub struct Answers<'a, P> {
+    printer: &'a P,
+    waiting: [u8; ROOM],
+    used: usize,
+    ghost within: { used ≤ 65536 },
 }
 
-pub fn empty() -> Output {
-    Output {
-        used: 0,
-        failed: false,
+impl<'a, P: Print> Answers<'a, P> {
+    pub fn new(printer: &'a P) -> Answers<'a, P> {
+        Answers {
+            printer,
+            waiting: [0; ROOM],
+            used: 0,
+        }
+    }
+
+    // Writes out what waits.
+    pub fn flush(&mut self) -> fmt::Result
+        ensures { OnOk result (self.new.used ≡ 0) }
+    {
+        let waiting = &self.waiting[..self.used];
+        if self.printer.write_all(waiting).is_err() {
+            return Err(fmt::Error);
+        }
+        self.used = 0;
+        Ok(())
+    }
+
+    // The answer to a line that cannot be read.
+    pub fn put_unread(&mut self, unread: Unread) -> fmt::Result {
+        let column = unread.column();
+        writeln!(self, "? {column}")
+    }
+
+    // An answer that is a text of its own.
+    pub fn put_text(&mut self, text: &[u8]) -> fmt::Result {
+        self.put(text)?;
+        self.put(b"\n")
+    }
+
+    // The answer to a call: its number, the reply, and a mark where a byte of the reply buffer after the reply was changed.
+    pub fn put_answer(&mut self, refusal: u8, count: usize, reply: &[u8; REPLY]) -> fmt::Result {
+        write!(self, "{refusal} ")?;
+        self.put_reply(first(reply, count))?;
+        if !text::all_are(text::after(reply, count), FILL) {
+            self.put(b" !")?;
+        }
+        self.put(b"\n")
+    }
+
+    fn put_reply(&mut self, reply: &[u8]) -> fmt::Result {
+        if reply.is_empty() {
+            return self.put(b"-");
+        }
+        for b in reply {
+            self.put(&text::pair_of(*b))?;
+        }
+        Ok(())
+    }
+
+    // Bytes behind those that wait; where the buffer is full they are written out first.
+    fn put(&mut self, bytes: &[u8]) -> fmt::Result {
+        for b in bytes {
+            if self.used == ROOM {
+                self.flush()?;
+            }
+            self.waiting[self.used] = *b;
+            self.used += 1;
+        }
+        Ok(())
     }
 }
 
-// Writes out what waits. After a failure nothing more is written.
-pub fn flush(printer: &impl Print, out: &[u8; ROOM], output: Output) -> Output {
-    if output.failed {
-        return output;
-    }
-    let is_written = printer.write_all(first(out, output.used)).is_ok();
-    Output {
-        used: 0,
-        failed: !is_written,
-    }
-}
-
-// The answer to a line that cannot be read.
-pub fn put_unread(
-    printer: &impl Print,
-    out: &mut [u8; ROOM],
-    output: Output,
-    column: usize,
-) -> Output {
-    let a = put_all(printer, out, output, b"? ");
-    let b = put_decimal(printer, out, a, column as u64);
-    put(printer, out, b, b'\n')
-}
-
-// An answer that is a text of its own.
-pub fn put_text(printer: &impl Print, out: &mut [u8; ROOM], output: Output, s: &[u8]) -> Output {
-    let a = put_all(printer, out, output, s);
-    put(printer, out, a, b'\n')
-}
-
-// The answer to a call: its number, the reply, and a mark where a byte of the reply buffer after the reply was changed.
-pub fn put_answer(
-    printer: &impl Print,
-    out: &mut [u8; ROOM],
-    output: Output,
-    refusal: u8,
-    count: usize,
-    reply: &[u8; REPLY],
-) -> Output {
-    let a = put_decimal(printer, out, output, refusal as u64);
-    let b = put(printer, out, a, b' ');
-    let c = put_reply(printer, out, b, first(reply, count));
-    let d = put_mark(printer, out, c, text::after(reply, count));
-    put(printer, out, d, b'\n')
-}
-
-fn put_reply(printer: &impl Print, out: &mut [u8; ROOM], output: Output, reply: &[u8]) -> Output {
-    if reply.len() == 0 {
-        return put(printer, out, output, b'-');
-    }
-    put_hex(printer, out, output, reply)
-}
-
-fn put_mark(printer: &impl Print, out: &mut [u8; ROOM], output: Output, rest: &[u8]) -> Output {
-    if text::all_are(rest, FILL) {
-        return output;
-    }
-    put_all(printer, out, output, b" !")
-}
-
-fn put_hex(printer: &impl Print, out: &mut [u8; ROOM], output: Output, s: &[u8]) -> Output {
-    let mut next = output;
-    let mut i: usize = 0;
-    while i < s.len() {
-        let pair = text::pair_of(s[i]);
-        let high = put(printer, out, next, pair[0]);
-        next = put(printer, out, high, pair[1]);
-        i += 1;
-    }
-    next
-}
-
-fn put_decimal(printer: &impl Print, out: &mut [u8; ROOM], output: Output, n: u64) -> Output {
-    let mut digits = [0u8; 20];
-    let k = io::decimal(n, &mut digits);
-    put_all(printer, out, output, &digits[..k])
-}
-
-fn put_all(printer: &impl Print, out: &mut [u8; ROOM], output: Output, s: &[u8]) -> Output {
-    let mut next = output;
-    let mut i: usize = 0;
-    while i < s.len() {
-        next = put(printer, out, next, s[i]);
-        i += 1;
-    }
-    next
-}
-
-// A byte behind those that wait; where the buffer is full they are written out first.
-fn put(printer: &impl Print, out: &mut [u8; ROOM], output: Output, b: u8) -> Output {
-    let used = output.used;
-    if used < ROOM {
-        out[used] = b;
-        return Output {
-            used: used + 1,
-            failed: output.failed,
-        };
-    }
-    let flushed = flush(printer, out, output);
-    out[0] = b;
-    Output {
-        used: 1,
-        failed: flushed.failed,
+impl<P: Print> Write for Answers<'_, P> {
+    fn write_str(&mut self, text: &str) -> fmt::Result {
+        self.put(text.as_bytes())
     }
 }

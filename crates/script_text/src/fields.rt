@@ -1,180 +1,181 @@
-// Fields of a line. A reader goes on from a cursor; one that meets a character with which no line can go on, or the end of
-// the line where it wants more, gives a wrong cursor at that place, and every reader hands a wrong cursor on.
-ghost use Rattle.std.specs.Prelude.{◌≤◌};
+// Fields of a line, read one after the other. A reader that meets a character with which no line can go on, or the end of the line
+// where it wants more, gives that place, and what it was read for goes no further.
+ghost use Rattle.std.specs.Prelude.{◌≡◌, ◌+◌, ◌*◌, ◌≤◌, ◌<◌, ◌∷◌, ◌↔◌, length, take, drop, IsOk, IfOk, OnOk, OnErr, if◌then◌else◌};
 
 use text::digit;
 
-// A place in a line, and whether all before it was read.
-#[derive(Clone, Copy)]
-pub struct Cursor {
+// The place in a line of the first character that cannot be read, or its end where it ends too early.
+#[derive(Clone, Copy, Debug, PartialEq, Eq)]
+pub struct Unread {
     pub at: usize,
-    pub good: bool,
 }
 
-// A number, and the cursor after it.
-#[derive(Clone, Copy)]
-pub struct Number {
-    pub value: u32,
-    pub cursor: Cursor,
+// The most bytes that a byte string may have.
+pub const MOST: usize = 4096;
+
+// A byte string that was read: an array and a count, since nothing here is on the heap.
+#[derive(Drop)]
+pub struct ByteString {
+    bytes: [u8; MOST],
+    count: usize,
 }
 
-// How many bytes were read, and the cursor after them.
-#[derive(Clone, Copy)]
-pub struct Count {
-    pub count: usize,
-    pub cursor: Cursor,
-}
-
-pub fn good(at: usize) -> Cursor {
-    Cursor { at, good: true }
-}
-
-pub fn wrong(at: usize) -> Cursor {
-    Cursor { at, good: false }
-}
-
-// This character.
-pub fn exactly(line: &[u8], from: Cursor, wanted: u8) -> Cursor {
-    if !from.good {
-        return from;
+impl ByteString {
+    pub fn as_slice(&self) -> &[u8]
+        ensures { result.now ≡ take self.now.count self.now.bytes }
+    {
+        text::first(&self.bytes, self.count)
     }
-    let at = from.at;
-    if at < line.len() {
-        if line[at] == wanted {
-            return good(at + 1);
+}
+
+// A line, and what is still to be read of it.
+#[derive(Drop)]
+pub struct Fields<'a> {
+    line: &'a [u8],
+    rest: &'a [u8],
+    ghost within: { length rest.now ≤ length line.now },
+}
+
+impl<'a> Fields<'a> {
+    pub fn new(line: &'a [u8]) -> Fields<'a>
+        ensures { result.rest.now ≡ line.now }
+    {
+        Fields { line, rest: line }
+    }
+
+    // What is still to be read.
+    pub fn rest(&self) -> &'a [u8]
+        ensures { result ≡ self.now.rest }
+    {
+        self.rest
+    }
+
+    // That the next character cannot be read.
+    pub fn unread(&self) -> Unread
+        ensures { result.at + length self.now.rest.now ≡ length self.now.line.now }
+    {
+        Unread {
+            at: self.line.len() - self.rest.len(),
         }
     }
-    wrong(at)
-}
 
-// The end of the line.
-pub fn end(line: &[u8], from: Cursor) -> Cursor {
-    if !from.good {
-        return from;
+    // So many characters were read, or all where there are fewer.
+    pub fn skip(&mut self, count: usize)
+        ensures { self.new.rest.now ≡ drop count self.old.rest.now }
+    {
+        self.rest = text::after(self.rest, count);
     }
-    if from.at < line.len() {
-        return wrong(from.at);
-    }
-    from
-}
 
-// Whether a good cursor has characters after it.
-pub fn has_more(line: &[u8], from: Cursor) -> bool {
-    from.good && from.at < line.len()
-}
+    // This character.
+    pub fn exactly(&mut self, wanted: u8) -> Result<(), Unread>
+        ensures ok { OnOk result (self.old.rest.now ≡ wanted ∷ self.new.rest.now) }
+        ensures err { OnErr result (self.new.rest.now ≡ self.old.rest.now) }
+    {
+        let rest = self.rest.strip_prefix(&[wanted]);
+        self.rest = rest.ok_or(self.unread())?;
+        Ok(())
+    }
 
-// A separator, and as many bytes as `out` has.
-pub fn fixed(line: &[u8], from: Cursor, separator: u8, out: &mut [u8]) -> Cursor {
-    let start = exactly(line, from, separator);
-    if !start.good {
-        return start;
-    }
-    let read = digit_pairs(line, start.at, out);
-    let next = read.cursor;
-    if read.count < out.len() {
-        return wrong(next.at);
-    }
-    next
-}
-
-// A space, and a byte string: `-`, or bytes, as many as `out` has at most.
-pub fn bytes(line: &[u8], from: Cursor, out: &mut [u8]) -> Count {
-    let start = exactly(line, from, b' ');
-    if !start.good {
-        return counted(0, start);
-    }
-    let empty = exactly(line, start, b'-');
-    if empty.good {
-        return counted(0, empty);
-    }
-    let read = digit_pairs(line, start.at, out);
-    let next = read.cursor;
-    if read.count == 0 {
-        return counted(0, wrong(next.at));
-    }
-    read
-}
-
-// Bytes of two digits each, up to a character that is no digit, and as many as `out` has at most.
-fn digit_pairs(line: &[u8], from: usize, out: &mut [u8]) -> Count {
-    let mut n: usize = 0;
-    let mut at = from;
-    while at < line.len() {
-        let high = digit(line[at]);
-        if 15 < high || out.len() <= n {
-            return counted(n, good(at));
+    // The end of the line.
+    pub fn end(&self) -> Result<(), Unread>
+        ensures { IsOk result ↔ (length self.now.rest.now ≡ 0) }
+    {
+        if self.rest.is_empty() {
+            Ok(())
+        } else {
+            Err(self.unread())
         }
-        at += 1;
-        if line.len() <= at {
-            return counted(n, wrong(at));
+    }
+
+    // A separator, and as many bytes as the array has.
+    pub fn fixed<const N: usize>(&mut self, separator: u8) -> Result<[u8; N], Unread>
+        ensures { OnOk result (length self.old.rest.now ≡ 1 + 2 * N + length self.new.rest.now) }
+    {
+        self.exactly(separator)?;
+        let mut bytes = [0; N];
+        if self.digit_pairs(&mut bytes)? < N {
+            return Err(self.unread());
         }
-        let low = digit(line[at]);
-        if 15 < low {
-            return counted(n, wrong(at));
+        Ok(bytes)
+    }
+
+    // A space, and a byte string: `-`, or bytes.
+    pub fn byte_string(&mut self) -> Result<ByteString, Unread> {
+        self.exactly(b' ')?;
+        let mut bytes = [0; MOST];
+        if self.exactly(b'-').is_ok() {
+            return Ok(ByteString { bytes, count: 0 });
         }
-        out[n] = high * 16 + low;
-        n += 1;
-        at += 1;
-    }
-    counted(n, good(at))
-}
-
-// A separator, and 0 or 1.
-pub fn flag(line: &[u8], from: Cursor, separator: u8) -> Number {
-    let start = exactly(line, from, separator);
-    let zero = exactly(line, start, b'0');
-    if zero.good {
-        return numbered(0, zero);
-    }
-    numbered(1, exactly(line, start, b'1'))
-}
-
-// A separator, and a decimal number up to `most`.
-pub fn decimal(line: &[u8], from: Cursor, separator: u8, most: u32) -> Number
-    ensures { result.value ≤ most }
-{
-    let start = exactly(line, from, separator);
-    if !start.good {
-        return numbered(0, start);
-    }
-    decimal_at(line, start.at, most)
-}
-
-fn decimal_at(line: &[u8], from: usize, most: u32) -> Number
-    ensures { result.value ≤ most }
-{
-    let mut value: u64 = 0;
-    let mut at = from;
-    while at < line.len() {
-        let d = digit(line[at]);
-        if 9 < d {
-            return decimal_to(from, at, value as u32);
+        match self.digit_pairs(&mut bytes)? {
+            0 => Err(self.unread()),
+            count => Ok(ByteString { bytes, count }),
         }
-        value = value * 10 + d as u64;
-        if (most as u64) < value {
-            return numbered(0, wrong(at));
+    }
+
+    // Bytes of two digits each, up to a character that is no digit, and as many as `out` has at most. How many they are.
+    fn digit_pairs(&mut self, out: &mut [u8]) -> Result<usize, Unread>
+        ensures bound { IfOk result (λ n. n ≤ length out.old) }
+        ensures shorter { IfOk result (λ n. length self.old.rest.now ≡ 2 * n + length self.new.rest.now) }
+    {
+        for (count, place) in out.iter_mut().enumerate() {
+            let Ok(high) = self.digit() else {
+                return Ok(count);
+            };
+            *place = high * 16 + self.digit()?;
         }
-        at += 1;
+        Ok(out.len())
     }
-    decimal_to(from, at, value as u32)
-}
 
-// A number whose digits stand between two places: there is one at least.
-fn decimal_to(from: usize, at: usize, value: u32) -> Number
-    ensures { result.value ≤ value }
-{
-    if from < at {
-        return numbered(value, good(at));
+    // A hexadecimal digit.
+    fn digit(&mut self) -> Result<u8, Unread>
+        ensures bound { IfOk result (λ d. d < 16) }
+        ensures ok { OnOk result (length self.old.rest.now ≡ 1 + length self.new.rest.now) }
+        ensures err { OnErr result (self.new.rest.now ≡ self.old.rest.now) }
+    {
+        let (c, rest) = self.rest.split_first().ok_or(self.unread())?;
+        let d = digit(*c).ok_or(self.unread())?;
+        self.rest = rest;
+        Ok(d)
     }
-    numbered(0, wrong(at))
-}
 
-fn counted(count: usize, cursor: Cursor) -> Count {
-    Count { count, cursor }
-}
+    // A separator, and 0 or 1.
+    pub fn flag(&mut self, separator: u8) -> Result<bool, Unread>
+        ensures { IfOk result (λ b. self.old.rest.now ≡ separator ∷ (if b then 49 else 48) ∷ self.new.rest.now) }
+    {
+        self.exactly(separator)?;
+        if self.exactly(b'0').is_ok() {
+            return Ok(false);
+        }
+        self.exactly(b'1')?;
+        Ok(true)
+    }
 
-fn numbered(value: u32, cursor: Cursor) -> Number
-    ensures { result.value ≤ value }
-{
-    Number { value, cursor }
+    // A separator, and a decimal number up to `most`.
+    pub fn decimal(&mut self, separator: u8, most: u32) -> Result<u32, Unread>
+        ensures { IfOk result (λ n. n ≤ most) }
+    {
+        self.exactly(separator)?;
+        let mut number = self.longer(0, most)?;
+        while self.rest.first().is_some_and(u8::is_ascii_digit) {
+            number = self.longer(number, most)?;
+        }
+        Ok(number)
+    }
+
+    // A number with one more digit behind it.
+    fn longer(&mut self, number: u32, most: u32) -> Result<u32, Unread>
+        ensures bound { IfOk result (λ n. n ≤ most) }
+        ensures shorter { OnOk result (length self.new.rest.now < length self.old.rest.now) }
+    {
+        let (c, rest) = self.rest.split_first().ok_or(self.unread())?;
+        if !c.is_ascii_digit() {
+            return Err(self.unread());
+        }
+        let longer = u64::from(number) * 10 + u64::from(*c - b'0');
+        if u64::from(most) < longer {
+            return Err(self.unread());
+        }
+        self.rest = rest;
+        Ok(longer as u32)
+    }
 }

@@ -1,8 +1,8 @@
 // The verb that a line begins with. No verb begins another, so the first that stands there whole is the one. Where none does,
 // the line is wrong behind the longest beginning that it shares with a verb.
-use crate::fields::{Cursor, good, wrong};
+use crate::fields::{Fields, Unread};
 
-#[derive(Clone, Copy)]
+#[derive(Clone, Copy, Debug, PartialEq, Eq)]
 pub enum Verb {
     New,
     Registers,
@@ -16,88 +16,42 @@ pub enum Verb {
     Image,
     Dump,
     Explain,
-    Unknown,
 }
 
-// A verb, and the cursor after it; where there is none, the place of the first character with which no verb goes on.
-#[derive(Clone, Copy)]
-pub struct Spoken {
-    pub verb: Verb,
-    pub cursor: Cursor,
-}
+// Each verb as it is written.
+const WRITTEN: [(&str, Verb); 12] = [
+    ("new", Verb::New),
+    ("registers", Verb::Registers),
+    ("value", Verb::Value),
+    ("columns", Verb::Columns),
+    ("period", Verb::Period),
+    ("tick", Verb::Tick),
+    ("p5", Verb::P5),
+    ("power", Verb::Power),
+    ("frame", Verb::Frame),
+    ("image", Verb::Image),
+    ("dump", Verb::Dump),
+    ("explain", Verb::Explain),
+];
 
-pub fn verb_of(line: &[u8]) -> Spoken {
-    spoken_of(
-        line,
-        b"new|registers|value|columns|period|tick|p5|power|frame|image|dump|explain",
-    )
-}
-
-fn spoken_of(line: &[u8], words: &[u8]) -> Spoken {
-    let mut spoken = Spoken {
-        verb: Verb::Unknown,
-        cursor: wrong(0),
-    };
-    let mut k: usize = 0;
-    while k < 12 {
-        spoken = tried(spoken, line, text::field(words, k), verb_at(k));
-        k += 1;
+impl Fields<'_> {
+    // The verb, after which the line goes on.
+    pub fn verb(&mut self) -> Result<Verb, Unread> {
+        let mut longest = 0;
+        for (word, verb) in WRITTEN {
+            let n = shared(self.rest(), word.as_bytes());
+            if n == word.len() {
+                self.skip(n);
+                return Ok(verb);
+            }
+            longest = longest.max(n);
+        }
+        self.skip(longest);
+        Err(self.unread())
     }
-    spoken
-}
-
-// The verbs in the order of their words.
-fn verb_at(k: usize) -> Verb {
-    match k {
-        0 => Verb::New,
-        1 => Verb::Registers,
-        2 => Verb::Value,
-        3 => Verb::Columns,
-        4 => Verb::Period,
-        5 => Verb::Tick,
-        6 => Verb::P5,
-        7 => Verb::Power,
-        8 => Verb::Frame,
-        9 => Verb::Image,
-        10 => Verb::Dump,
-        11 => Verb::Explain,
-        _ => Verb::Unknown,
-    }
-}
-
-// A verb is tried, unless one was found.
-fn tried(before: Spoken, line: &[u8], word: &[u8], verb: Verb) -> Spoken {
-    let found = before.cursor;
-    if found.good {
-        return before;
-    }
-    let n = shared(line, word);
-    if n == word.len() {
-        return Spoken {
-            verb,
-            cursor: good(n),
-        };
-    }
-    if found.at < n {
-        return Spoken {
-            verb: Verb::Unknown,
-            cursor: wrong(n),
-        };
-    }
-    before
 }
 
 // How many characters of a word a line begins with.
 fn shared(line: &[u8], word: &[u8]) -> usize {
-    let mut i: usize = 0;
-    while i < word.len() {
-        if line.len() <= i {
-            return i;
-        }
-        if line[i] != word[i] {
-            return i;
-        }
-        i += 1;
-    }
-    i
+    line.iter().zip(word).take_while(|(a, b)| a == b).count()
 }

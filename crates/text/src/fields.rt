@@ -3,18 +3,15 @@
 ghost use Rattle.std.specs.Prelude.{◌≤◌, length};
 
 use crate::hexadecimal::{digit, digits};
-use crate::lines::end_from;
 
-// The first character of a line, or 0.
+// The first character of a line, or 0: an Option would be no plainer, since 0 is a letter that no program knows, and goes as those.
 pub fn letter(line: &[u8]) -> u8 {
-    if 0 < line.len() { line[0] } else { 0 }
+    line.first().copied().unwrap_or(0)
 }
 
 // The characters of field `k`.
 pub fn field(line: &[u8], k: usize) -> &[u8] {
-    let start = start_of(line, k);
-    let end = end_from(line, start, b'|');
-    &line[start..end]
+    line.split(|c| *c == b'|').nth(k).unwrap_or(b"")
 }
 
 // The bytes of field `k`, as many as `out` has room for, and how many they are.
@@ -26,65 +23,23 @@ pub fn bytes(line: &[u8], k: usize, out: &mut [u8]) -> usize
 
 // The first byte of field `k`; 0 where it has none, and so in the arrays below.
 pub fn byte(line: &[u8], k: usize) -> u8 {
-    let mut b = [0u8; 1];
-    bytes(line, k, &mut b);
-    b[0]
+    let [b] = array::<1>(line, k);
+    b
 }
 
-pub fn bytes_8(line: &[u8], k: usize) -> [u8; 8] {
-    let mut b = [0u8; 8];
+// The first bytes of field `k`.
+pub fn array<const N: usize>(line: &[u8], k: usize) -> [u8; N] {
+    let mut b = [0; N];
     bytes(line, k, &mut b);
     b
 }
 
-pub fn bytes_12(line: &[u8], k: usize) -> [u8; 12] {
-    let mut b = [0u8; 12];
-    bytes(line, k, &mut b);
-    b
-}
-
-pub fn bytes_16(line: &[u8], k: usize) -> [u8; 16] {
-    let mut b = [0u8; 16];
-    bytes(line, k, &mut b);
-    b
-}
-
-// The decimal number in field `k`, modulo 2^32.
+// The decimal number in field `k`, modulo 2^32. A character that is no digit counts as 16.
 pub fn number(line: &[u8], k: usize) -> u32 {
-    decimal(field(line, k))
+    field(line, k).iter().fold(0, with_digit)
 }
 
-fn decimal(s: &[u8]) -> u32 {
-    let mut n: u32 = 0;
-    let mut i: usize = 0;
-    while i < s.len() {
-        n = with_digit(n, digit(s[i]));
-        i += 1;
-    }
-    n
-}
-
-fn with_digit(n: u32, d: u8) -> u32 {
-    ((n as u64 * 10 + d as u64) % 4294967296) as u32
-}
-
-// The place after so many bars, or the end.
-fn start_of(line: &[u8], k: usize) -> usize
-    ensures { result ≤ length line.now }
-{
-    let mut at: usize = 0;
-    let mut left = k;
-    while 0 < left {
-        at = past_bar(line, at);
-        left -= 1;
-    }
-    at
-}
-
-fn past_bar(line: &[u8], from: usize) -> usize
-    requires { from ≤ length line.now }
-    ensures { result ≤ length line.now }
-{
-    let end = end_from(line, from, b'|');
-    if end < line.len() { end + 1 } else { end }
+fn with_digit(n: u32, c: &u8) -> u32 {
+    n.wrapping_mul(10)
+        .wrapping_add(u32::from(digit(*c).unwrap_or(16)))
 }

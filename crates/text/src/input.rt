@@ -7,23 +7,9 @@ use std::io::Read;
 pub fn read_full<R: Read>(input: &mut R, out: &mut [u8]) -> usize
     ensures { result ≤ length out.new }
 {
-    let mut done: usize = 0;
-    while done < out.len() {
-        let n = read_some(input, &mut out[done..]);
-        if n == 0 {
-            return done;
-        }
+    let mut done = 0;
+    while let Ok(n @ 1..) = input.read(&mut out[done..]) {
         done += n;
     }
     done
-}
-
-// One read: how many bytes it gave, or 0 where it failed.
-fn read_some<R: Read>(input: &mut R, out: &mut [u8]) -> usize
-    ensures { result ≤ length out.new }
-{
-    match input.read(out) {
-        Ok(n) => n,
-        Err(_) => 0,
-    }
 }

@@ -2,16 +2,20 @@
 // hexadecimal digits each, parts of a slice, and printing. What a line means is its program's.
 #![tactic(auto)]
 
+mod each;
 mod fields;
 mod hexadecimal;
 mod input;
-mod lines;
 mod parts;
 mod printing;
+mod room;
+mod shown;
 
-pub use fields::{byte, bytes, bytes_8, bytes_12, bytes_16, field, letter, number};
+pub use each::{EachLine, answer_lines, each_line};
+pub use fields::{array, byte, bytes, field, letter, number};
 pub use hexadecimal::{digit, digits, pair_of};
 pub use input::read_full;
-pub use lines::{after_line, end_from, line_at};
 pub use parts::{after, all_are, between, first};
-pub use printing::{print, print_bool, print_hex, print_name, print_number};
+pub use printing::{print, print_name};
+pub use room::bytes_in;
+pub use shown::Hex;

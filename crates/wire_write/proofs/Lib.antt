@@ -1,2 +1,3 @@
 pub mod WroteLaws
+pub mod ByteLaws
 pub mod FlatLaws

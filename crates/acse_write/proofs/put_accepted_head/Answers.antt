@@ -6,4 +6,4 @@ use Rattle.acse_write.proofs.put_accepted_head.Goals as goal
 pub returns : goal.returns
 unfolding ciphered_aare_head
 returns c =
-    then_array (then_array (then_array (then_array (then_array (then_array c.put_outcome-responding.ensures c.put_title-requirements.ensures) (sized c.put_all-mechanism.ensures)) c.put_mechanism-value.ensures) (sized c.put_all-lent.ensures)) c.put_8-information.ensures) (sized c.put_all.ensures)
+    then_array (then_array (then_array (then_array (then_array (then_array c.put_outcome-responding.ensures c.put_title-requirements.ensures) (sized c.put_all-mechanism.ensures)) c.put_mechanism-value.ensures) (sized c.put_all-lent.ensures)) c.put_array-information.ensures) (sized c.put_all.ensures)

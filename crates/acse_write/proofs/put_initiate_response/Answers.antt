@@ -11,4 +11,4 @@ pub returns : goal.returns
 unfolding initiate_response told_size longest_received
 returns c =
     let three : WroteArray 3 _ _ _ _ _ = record { wrote = c.put_all-size.ensures; sized = search rules } in
-    then_array (then_array (then_array (sized c.put_all-services.ensures) three) (record { wrote = c.put_u16-name.ensures; sized = refl })) (sized c.put_all.ensures)
+    then_array (then_array (then_array (sized c.put_all-services.ensures) three) (record { wrote = c.put_number-name.ensures; sized = refl })) (sized c.put_all.ensures)

@@ -4,4 +4,4 @@ use Rattle.acse_write.proofs.put_title.Goals as goal
 
 pub returns : goal.returns
 returns c =
-    then_array (sized c.put_all-held.ensures) c.put_8.ensures
+    then_array (sized c.put_all-held.ensures) c.put_array.ensures

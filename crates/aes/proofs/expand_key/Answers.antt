@@ -1,46 +1,35 @@
--- After i turns the first i + 1 round keys stand in the schedule, k is the last of them, and rc the constant of the next.
-use borrow.Author.Rules.{rules}
+-- After i turns the first i + 1 round keys are made, k is the last of them, and rc the constant of the next.
 use native.Mathlib.Omega.{arith}
 use native.Mathlib.Numerals.{add-one}
-use mathlib.Core.Path.{◌≡◌, refl, sym, ◌∙◌}
+use mathlib.Core.Path.{◌≡◌, refl, sym, ap, ◌∙◌}
+use mathlib.Core.List.{List, [], ◌∷◌, ◌++◌, append-nil}
 use Prim.Native.Nat.{◌+◌}
-use lib.ListN.{length-set}
 use lib.Seq.{take-suc-set, take_all}
-use Rattle.aes.specs.Sbox.{sbox_table}
+use Rattle.aes.specs.State.{State}
 use Rattle.aes.specs.KeyExpansion.{rcon, round_key, round_keys, key_expansion}
 use Rattle.aes.proofs.expand_key.Goals as goal
 
-pub loop-i-init : goal.loop-i-init
+pub loop-next-init : goal.loop-next-init
 unfolding round_key rcon round_keys
-loop-i-init c = (search rules, (refl, (refl, (refl, refl))))
+loop-next-init c = (refl, refl, refl)
 
-pub next_key-n-requires : goal.next_key-n-requires
-unfolding sbox_table
-next_key-n-requires c = refl
-
-pub loop-i-preserved : goal.loop-i-preserved
+pub loop-next-preserved : goal.loop-next-preserved
 unfolding round_key rcon round_keys
-loop-i-preserved c =
-    let l = c.loop-i in
+loop-next-preserved c =
+    let l = c.loop-next in
+    let i = l.next-index in
     let n = c.next_key-n.result in
-    let k = c.state_of-first.result in
-    let new : n ≡ round_key k (l.i + 1) = simp (add-one, c.next_key-n.ensures, l.invariant.1.1.0, l.invariant.1.1.1.0) in (
-      search rules,
-      (
-        simp length-set (search rules),
-        (
-          new,
-          (
-            simp (add-one, c.times_x-rc.ensures, l.invariant.1.1.1.0),
-            take-suc-set l.w (l.i + 1) n (omega arith) ∙ simp (new, add-one, l.invariant.1.1.1.1),
-          ),
-        ),
-      ),
+    let k = c.state_of-k.result in
+    let new : n ≡ round_key k (i + 1) = simp (add-one, c.next_key-n.ensures, l.invariant.0, l.invariant.1) in (
+      new,
+      simp (add-one, c.times_x-rc.ensures, l.invariant.1),
+      simp (add-one, take-suc-set l.next-items i n (omega arith)) (ap (λ (t : List State). t ++ (n ∷ [])) l.invariant.2 ∙ simp (new, add-one)),
     )
 
 pub returns : goal.returns
 unfolding key_expansion
 returns c =
-    let l = c.loop-i in
-    let e : l.i ≡ 10 = omega arith in
-    sym (take_all 11 l.w (omega arith)) ∙ (rw e at l.invariant.1.1.1.1) ∙ simp c.state_of-first.ensures
+    let l = c.loop-next in
+    let e : l.next-index ≡ 10 = omega arith in
+    let all = (rw e at l.invariant.2) in
+    ap (λ (t : List State). c.state_of-k.result ∷ t) (append-nil l.next-items ∙ sym (take_all 10 l.next-items (omega arith))) ∙ all ∙ simp c.state_of-k.ensures

@@ -1,8 +1,12 @@
--- Eleven round keys, eleven calls.
-use Rattle.aes.specs.Held.{each_from, held_schedule}
+-- Eleven round keys, each held.
+use borrow.Author.Rules.{rules}
+use mathlib.Core.List.{[]}
+use lib.ListN.{get_or}
+use Rattle.aes.specs.Held.{held_schedule, by_columns}
+use Rattle.aes.proofs.HeldLaws.{all_of}
 use Rattle.aes.proofs.held_schedule.Goals as goal
 
 pub returns : goal.returns
-unfolding held_schedule each_from
+unfolding held_schedule
 returns c =
-    simp (c.by_columns.ensures, c.by_columns-2.ensures, c.by_columns-3.ensures, c.by_columns-4.ensures, c.by_columns-5.ensures, c.by_columns-6.ensures, c.by_columns-7.ensures, c.by_columns-8.ensures, c.by_columns-9.ensures, c.by_columns-10.ensures, c.by_columns-11.ensures)
+    all_of 11 0 (λ i. by_columns (get_or c.args.w i [])) c.map.result c.map.ensures.items.long (λ k e m. let g = c.map.ensures.items.at k [] e m in search rules)

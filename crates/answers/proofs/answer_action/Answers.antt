@@ -10,17 +10,17 @@ use Rattle.answers.proofs.AnswerLaws.{method_granted, method_denied}
 use Rattle.std.proofs.Common.{arith}
 use Rattle.answers.proofs.answer_action.Goals as goal
 
-pub returns-in-Done : goal.returns-in-Done
-returns-in-Done c =
+pub returns-in-Ok : goal.returns-in-Ok
+returns-in-Ok c =
     let a = c.args in
     let v = parameter_in a.apdu.now a.argument in
-    method_granted (request_as a.query (action a.method v)) a.body (found_as a.query.name a.found) _ a.method v _ (rw c.in-Done.is at c.invoke_method-o.ensures) refl (then c.put_head-a.ensures c.put-b.ensures) (c.after_method.ensures a.query.name _ a.body)
+    method_granted (request_as a.query (action a.method v)) a.body (found_as a.query.name a.found) _ a.method v _ (rw c.in-Ok.is at c.invoke_method.ensures) refl (then c.put_head-a.ensures c.put-b.ensures) (c.after_method.ensures a.query.name _ a.body)
 
-pub returns-in-Denied : goal.returns-in-Denied
-returns-in-Denied c =
+pub returns-in-Err : goal.returns-in-Err
+returns-in-Err c =
     let a = c.args in
     let v = parameter_in a.apdu.now a.argument in
-    method_denied (request_as a.query (action a.method v)) a.body (found_as a.query.name a.found) _ a.method v _ (rw c.in-Denied.is at c.invoke_method-o.ensures) refl (then c.put_head-a-in-Denied.ensures c.put-b-in-Denied.ensures) (rw c.unchanged.ensures refl)
+    method_denied (request_as a.query (action a.method v)) a.body (found_as a.query.name a.found) _ a.method v _ (rw c.in-Err.is at c.invoke_method.ensures) refl (then (rw c.from.ensures at c.put_head-a-in-Err.ensures) c.put-b-in-Err.ensures) (rw c.unchanged.ensures refl)
 
 pub put_head-a-requires : goal.put_head-a-requires
 put_head-a-requires c = omega (arith, text_room_lem)
@@ -28,8 +28,8 @@ put_head-a-requires c = omega (arith, text_room_lem)
 pub put-b-requires : goal.put-b-requires
 put-b-requires c = omega (arith, text_room_lem)
 
-pub put_head-a-requires-in-Denied : goal.put_head-a-requires-in-Denied
-put_head-a-requires-in-Denied c = omega (arith, text_room_lem)
+pub put_head-a-requires-in-Err : goal.put_head-a-requires-in-Err
+put_head-a-requires-in-Err c = omega (arith, text_room_lem)
 
-pub put-b-requires-in-Denied : goal.put-b-requires-in-Denied
-put-b-requires-in-Denied c = omega (arith, text_room_lem)
+pub put-b-requires-in-Err : goal.put-b-requires-in-Err
+put-b-requires-in-Err c = omega (arith, text_room_lem)

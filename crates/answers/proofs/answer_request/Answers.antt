@@ -1,20 +1,28 @@
 -- `answers::answer_request` meets its contract.
-use mathlib.Core.Path.{sym}
-use Rattle.model.specs.Objects.{turned}
-use Rattle.cosem.specs.Requests.{requested}
 use Rattle.body.specs.View.{body_of}
 use Rattle.body.proofs.BodyLaws.{sound_fits}
+use Rattle.answers.proofs.AnswerLaws.{turns_by, asked_is}
 use Rattle.answers.proofs.answer_request.Goals as goal
 
 pub find-found-requires : goal.find-found-requires
 find-found-requires c = (sound_fits c.args.body c.requires.0).registers
 
-pub returns-then-want : goal.returns-then-want
-unfolding turned requested body_of
-returns-then-want c =
-    rw (sym (c.want_of-want.ensures c.args.apdu.now), c.if-want.true, sym c.name_in-name.ensures, sym c.find-found.ensures, sym (c.want_of-want.ensures c.args.apdu.now), c.if-want.true) c.answer_get.ensures
+pub returns-in-Read : goal.returns-in-Read
+unfolding body_of
+returns-in-Read c =
+    turns_by (asked_is c.args.client c.args.selective c.args.blocks c.args.apdu.now c.args.asked (body_of c.args.body) c.in-Read.is c.name_in-name.ensures c.find-found.ensures) c.answer_get.ensures
 
-pub returns : goal.returns
-unfolding turned requested body_of
-returns c =
-    rw (sym (c.want_of-want.ensures c.args.apdu.now), c.if-want.false, sym c.name_in-name.ensures, sym c.find-found.ensures, sym (c.want_of-want.ensures c.args.apdu.now), c.if-want.false) c.answer_action.ensures
+pub returns-in-ReadSelected : goal.returns-in-ReadSelected
+unfolding body_of
+returns-in-ReadSelected c =
+    turns_by (asked_is c.args.client c.args.selective c.args.blocks c.args.apdu.now c.args.asked (body_of c.args.body) c.in-ReadSelected.is c.name_in-name.ensures c.find-found.ensures) c.answer_get-in-ReadSelected.ensures
+
+pub returns-in-Invoke : goal.returns-in-Invoke
+unfolding body_of
+returns-in-Invoke c =
+    turns_by (asked_is c.args.client c.args.selective c.args.blocks c.args.apdu.now c.args.asked (body_of c.args.body) c.in-Invoke.is c.name_in-name.ensures c.find-found.ensures) c.answer_action.ensures
+
+pub returns-in-InvokeWith : goal.returns-in-InvokeWith
+unfolding body_of
+returns-in-InvokeWith c =
+    turns_by (asked_is c.args.client c.args.selective c.args.blocks c.args.apdu.now c.args.asked (body_of c.args.body) c.in-InvokeWith.is c.name_in-name.ensures c.find-found.ensures) c.answer_action-in-InvokeWith.ensures

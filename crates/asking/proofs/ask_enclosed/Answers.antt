@@ -10,27 +10,27 @@ use Rattle.asking.proofs.ask_enclosed.Goals as goal
 
 pub slice_bounds-ask_inside-end : goal.slice_bounds-ask_inside-end
 slice_bounds-ask_inside-end c =
-    admitted_size c.admit_envelope-admission.ensures c.in-Admitted.is
+    admitted_size c.admit_envelope.ensures c.in-Ok.is
 
-pub returns-in-Unopened : goal.returns-in-Unopened
+pub returns-in-Err-Unopened : goal.returns-in-Err-Unopened
 unfolding request_enclosed
-returns-in-Unopened c =
+returns-in-Err-Unopened c =
     rw (c.alone.ensures, c.kept.ensures)
     (follows
-    (admits_unopened (dedicated_tag c.args.kind) c.args.apdu.now c.dedicated_keys-keys.ensures c.title_of-title.ensures c.args.client (line_of c.args.meter.line) c.counters_of-pair.ensures _ (rw c.dedicated_tag-tag.ensures at c.admit_envelope-admission.ensures) c.in-Unopened.is)
+    (admits_unopened (dedicated_tag c.args.kind) c.args.apdu.now c.dedicated_keys-keys.ensures c.title_of-title.ensures c.args.client (line_of c.args.meter.line) c.counters_of-pair.ensures _ (rw c.dedicated_tag-tag.ensures at c.admit_envelope.ensures) (rw c.in-Err-Unopened.field-0-is at c.in-Err-Unopened.is))
     (says_kept envelope_unopened nothing c.args.meter refl (nothing_sent _)))
 
-pub returns-in-OutsideWindow : goal.returns-in-OutsideWindow
+pub returns-in-Err-OutsideWindow : goal.returns-in-Err-OutsideWindow
 unfolding request_enclosed
-returns-in-OutsideWindow c =
-    rw c.alone-in-OutsideWindow.ensures
+returns-in-Err-OutsideWindow c =
+    rw c.alone-in-Err-OutsideWindow.ensures
     (follows
-    (admits_outside (dedicated_tag c.args.kind) c.args.apdu.now c.dedicated_keys-keys.ensures c.title_of-title.ensures c.args.client (line_of c.args.meter.line) c.counters_of-pair.ensures _ (rw c.dedicated_tag-tag.ensures at c.admit_envelope-admission.ensures) c.in-OutsideWindow.is)
+    (admits_outside (dedicated_tag c.args.kind) c.args.apdu.now c.dedicated_keys-keys.ensures c.title_of-title.ensures c.args.client (line_of c.args.meter.line) c.counters_of-pair.ensures _ (rw c.dedicated_tag-tag.ensures at c.admit_envelope.ensures) (rw c.in-Err-OutsideWindow.field-0-is at c.in-Err-OutsideWindow.is))
     (c.drop_association.ensures _ c.args.meter.body))
 
-pub returns-in-Admitted : goal.returns-in-Admitted
+pub returns-in-Ok : goal.returns-in-Ok
 unfolding request_enclosed
-returns-in-Admitted c =
+returns-in-Ok c =
     follows
-    (admits_inside (dedicated_tag c.args.kind) c.args.apdu.now c.dedicated_keys-keys.ensures c.title_of-title.ensures c.args.client (line_of c.args.meter.line) c.counters_of-pair.ensures _ (rw c.dedicated_tag-tag.ensures at c.admit_envelope-admission.ensures) c.in-Admitted.is)
+    (admits_inside (dedicated_tag c.args.kind) c.args.apdu.now c.dedicated_keys-keys.ensures c.title_of-title.ensures c.args.client (line_of c.args.meter.line) c.counters_of-pair.ensures _ (rw c.dedicated_tag-tag.ensures at c.admit_envelope.ensures) c.in-Ok.is)
     (c.ask_inside.ensures c.args.secrets c.dedicated_keys-keys.ensures)

@@ -1,6 +1,6 @@
 -- `capi::birlimock_state_size` meets its contract.
 use mathlib.Core.Path.{sym}
-use Rattle.image.proofs.Sizes.{sizes}
+use Rattle.image.specs.Sizes.{sizes}
 use Rattle.capi.proofs.birlimock_state_size.Goals as goal
 
 pub returns : goal.returns

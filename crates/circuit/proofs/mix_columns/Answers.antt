@@ -26,14 +26,14 @@ returns c =
     let h = lane_in r k b hr hk hb in
     let i = (j + 32) % 64 in
     let l : i < 64 = omega arith in
-    let below = c.turn-below.ensures j h in
+    let below = c.turned-below.ensures j h in
     let e : (m n o : ℕ) → m ≡ lane_of ((r + 1) % 4) k b → n ≡ lane_of ((r + 2) % 4) k b → o ≡ lane_of ((r + 3) % 4) k b
     → sum4 (xtime (lane j p)) (times3 (lane m p)) (lane n p) (lane o p)
     ≡ sum4 (xtime (lane j p)) (times3 (lane (lane_of ((r + 1) % 4) k b) p)) (lane (lane_of ((r + 2) % 4) k b) p) (lane (lane_of ((r + 3) % 4) k b) p) =
     λ m n o x y z. cc in
-    c.xor-2.ensures j
+    c.bitxor-2.ensures j
     ∙ ap₂ bit_xor
-    (c.xor.ensures j ∙ ap₂ bit_xor (c.double.ensures j ∙ ap xtime (c.xor-both.ensures j ∙ ap (bit_xor (lane j p)) below)) below)
-    (c.half_turn.ensures j h ∙ c.xor-both.ensures i ∙ ap (bit_xor (lane i p)) (c.turn-below.ensures i l))
+    (c.bitxor.ensures j ∙ ap₂ bit_xor (c.double.ensures j ∙ ap xtime (c.bitxor-both.ensures j ∙ ap (bit_xor (lane j p)) below)) below)
+    (c.turned.ensures j h ∙ c.bitxor-both.ensures i ∙ ap (bit_xor (lane i p)) (c.turned-below.ensures i l))
     ∙ sum_of (lane j p) (lane ((j + 16) % 64) p) (lane i p) (lane ((i + 16) % 64) p) (lane_lt j p) (lane_lt ((j + 16) % 64) p)
     ∙ e ((j + 16) % 64) i ((i + 16) % 64) (one_on r k b hr hk hb) (two_on r k b hr hk hb) (three_on r k b hr hk hb)

@@ -1,8 +1,8 @@
--- Eight words, eight calls.
+-- Each word as one of them is.
 use mathlib.Core.Path.{ap, ◌∙◌}
 use Prim.Native.Nat.{ℕ}
 use Rattle.planes.specs.Lanes.{lane}
-use Rattle.planes.proofs.LaneLaws.{lane_each}
+use Rattle.planes.proofs.LaneLaws.{lane_map}
 use Rattle.circuit.specs.Layout.{lane_of, shifted_from}
 use Rattle.circuit.proofs.LayoutLaws.{lane_in, shifted_from_lem}
 use Rattle.circuit.proofs.shift_rows.Goals as goal
@@ -13,13 +13,4 @@ returns c =
     let p = c.args.p in
     let j = lane_of r k b in
     let h = lane_in r k b hr hk hb in
-    lane_each j (shifted_from j) _ p
-    (c.shifted.ensures j h)
-    (c.shifted-2.ensures j h)
-    (c.shifted-3.ensures j h)
-    (c.shifted-4.ensures j h)
-    (c.shifted-5.ensures j h)
-    (c.shifted-6.ensures j h)
-    (c.shifted-7.ensures j h)
-    (c.shifted-8.ensures j h)
-    ∙ ap (λ (i : ℕ). lane i p) (shifted_from_lem r k b hr hk hb)
+    lane_map j (shifted_from j) _ p _ c.map.ensures (λ x y e. e j h) ∙ ap (λ (i : ℕ). lane i p) (shifted_from_lem r k b hr hk hb)

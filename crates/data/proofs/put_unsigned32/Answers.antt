@@ -4,4 +4,4 @@ use Rattle.data.proofs.put_unsigned32.Goals as goal
 
 pub returns : goal.returns
 returns c =
-    then c.put-a.ensures c.put_u32.ensures
+    then c.put-a.ensures c.put_number.ensures

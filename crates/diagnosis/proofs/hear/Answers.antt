@@ -21,23 +21,3 @@ slice_bounds-carry-end c =
     let s = c.args in
     let k = rw (sym c.read_frame-read.ensures ∙ c.in-Apdu.is) at (read_told s.frame.now) in
     omega (arith, k.2.first, k.2.last, k.2.some)
-
-pub returns-in-Unanswered : goal.returns-in-Unanswered
-returns-in-Unanswered c =
-    rw (sym c.read_frame-read.ensures ∙ c.in-Unanswered.is) c.of_frame.ensures
-
-pub returns-in-Rejected : goal.returns-in-Rejected
-returns-in-Rejected c =
-    rw (sym c.read_frame-read.ensures ∙ c.in-Rejected.is) c.of_frame-in-Rejected.ensures
-
-pub returns-in-LinkUp : goal.returns-in-LinkUp
-returns-in-LinkUp c =
-    rw (sym c.read_frame-read.ensures ∙ c.in-LinkUp.is) c.link_up.ensures
-
-pub returns-in-LinkDown : goal.returns-in-LinkDown
-returns-in-LinkDown c =
-    rw (sym c.read_frame-read.ensures ∙ c.in-LinkDown.is) c.link_down.ensures
-
-pub returns-in-Apdu : goal.returns-in-Apdu
-returns-in-Apdu c =
-    rw (sym c.read_frame-read.ensures ∙ c.in-Apdu.is) c.carry.ensures

@@ -12,5 +12,6 @@ use Rattle.ending.proofs.drop_association.Goals as goal
 pub returns : goal.returns
 returns c l b =
     let before = line_of c.args.line in
-    says_line outside_window nothing (meter_with c.args.line b) refl (nothing_sent l) _ c.ended-next.ensures.view refl
-    (ends_one c.ended-next.result (Ciphering c.args.client) (with_association no_association (peer (Ciphering c.args.client) before)) before c.ended-next.ensures.wiped)
+    rw c.kept.ensures
+    (says_line outside_window nothing (meter_with c.args.line b) refl (nothing_sent l) _ c.ended.ensures.view refl
+    (ends_one c.ended.result (Ciphering c.args.client) (with_association no_association (peer (Ciphering c.args.client) before)) before c.ended.ensures.wiped))

@@ -7,6 +7,6 @@ use Rattle.ending.proofs.misread.Goals as goal
 
 pub returns : goal.returns
 returns c b =
-    let next = c.accept_counter-next.ensures in
+    let next = c.accept_counter.ensures in
     rw (sym next)
     (c.except.ensures c.args.line malformed_apdu refl (λ d. accepted_same c.args.client c.args.counter (line_of c.args.line) next d) b)

@@ -1,4 +1,3 @@
--- `fcs::update` meets its contract.
 use borrow.Author.Rules.{rules}
 use Rattle.fcs.proofs.CheckLaws.{by_table}
 use Rattle.fcs.proofs.update.Goals as goal
@@ -6,4 +5,4 @@ use Rattle.fcs.proofs.update.Goals as goal
 pub returns : goal.returns
 returns c =
     let a = c.args in
-    by_table a.t.now a.c a.b c.requires (search rules)
+    by_table _ a.c a.b c.table.ensures (search rules)

@@ -1,6 +1,6 @@
 -- `gcm::copy` meets its contract. The invariant: the first i bytes are copied.
 use Rattle.std.proofs.Common.{◌≡◌, ℕ, ◌+◌, ◌<◌, List, ◌++◌, length, drop, get_or, ap, ◌∙◌, arith}
-use lib.ListN.{set, length-set}
+use lib.ListN.{set}
 use native.Mathlib.Nat.{zero-add}
 use native.Mathlib.Numerals.{add-one}
 use lib.Seq.{paste-suc, take-length}
@@ -15,11 +15,11 @@ loop-i-preserved c =
     let a = c.args in
     let i = c.loop-i.i in
     let h : i < length a.c.now = omega arith in
-    let l : i < length a.out.now = omega (arith, c.loop-i.invariant.1) in
-    (omega arith, c.loop-i.invariant.1, simp length-set c.loop-i.invariant.2, rw c.loop-i.invariant.3 (one_more a.c.now a.out.now i h l))
+    let l : i < length a.out.now = omega (arith, c.requires) in
+    rw c.loop-i.invariant (one_more a.c.now a.out.now i h l)
 
 pub returns : goal.returns
 returns c =
     let a = c.args in
-    let e : c.loop-i.i ≡ length a.c.now = omega (arith, c.loop-i.invariant.0) in
-    rw e at c.loop-i.invariant.3 ∙ ap (λ (x : List ℕ). x ++ drop (length a.c.now) a.out.now) (take-length a.c.now)
+    let e : c.loop-i.i ≡ length a.c.now = omega arith in
+    rw e at c.loop-i.invariant ∙ ap (λ (x : List ℕ). x ++ drop (length a.c.now) a.out.now) (take-length a.c.now)

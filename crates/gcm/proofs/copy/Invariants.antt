@@ -1,4 +1,4 @@
-use Rattle.std.proofs.Common.{◌≡◌, ℕ, ◌-◌, ◌≤◌, List, ◌++◌, length, take, drop}
+use Rattle.std.proofs.Common.{◌≡◌, List, ℕ, ◌++◌, take, drop}
 use Rattle.gcm.proofs.copy.Given as goal
 
 -- the first i bytes of l are those of s
@@ -6,8 +6,4 @@ abbrev pub begun : List ℕ → List ℕ → ℕ → List ℕ
 begun s l i = take i s ++ drop i l
 
 abbrev pub invariant-loop-i : goal.invariant-loop-i
-invariant-loop-i l =
-    (l.i ≤ length l.c) × (length l.c ≤ length l.initial.out) × (length l.out ≡ length l.initial.out) × (l.out ≡ begun l.c l.initial.out l.i)
-
-abbrev pub decreases-loop-i : goal.decreases-loop-i
-decreases-loop-i l = length l.c - l.i
+invariant-loop-i l = l.out ≡ begun l.c l.initial.out l.i

@@ -4,4 +4,4 @@ use Rattle.gcm.proofs.gmac.Goals as goal
 
 pub returns : goal.returns
 unfolding gmac
-returns c = simp (c.tag_under.ensures, c.schedule_of-w.ensures)
+returns c = c.tag.ensures

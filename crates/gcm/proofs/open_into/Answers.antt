@@ -1,31 +1,30 @@
 -- The room is tested, then the tag, and only then is anything written.
-use borrow.Author.Rules.{rules}
 use mathlib.Core.Path.{sym, ap, ◌∙◌}
 use mathlib.Core.List.{List, ◌++◌}
 use Prim.Native.Nat.{ℕ}
 use lib.ListN.{length, take, drop}
-use lib.Seq.{length-take-le, take-length}
+use lib.Seq.{take-length}
 use Rattle.aes.specs.State.{State}
-use Rattle.ghash.specs.Product.{num}
 use Rattle.gctr.specs.Gctr.{inc32, gctr}
-use Rattle.gcm.specs.Gcm.{ciphered, authentic}
-use Rattle.gcm.specs.Calls.{under, key_of}
+use Rattle.gcm.specs.Gcm.{ciphered}
+use Rattle.gcm.specs.Calls.{key_of}
 use Rattle.gcm.proofs.OpenLaws.{no_room, forged, unsealed_there}
 use Rattle.gcm.proofs.open_into.Goals as goal
+use Rattle.gcm.proofs.open_into.Goals.{then-out-c-via-then-out-c, then-out-c-via-else-out-c+then-not-matches}
 
-pub returns-then-out-n : goal.returns-then-out-n
-returns-then-out-n c =
+pub returns-then-out-c : goal.returns-then-out-c
+returns-then-out-c c =
     let s = c.args in
-    no_room (key_of s.key) s.nonce s.aad.now s.c.now s.t.now s.out.now c.if-out-n.true
+    elim c.then-out-c.branch [
+      | then-out-c-via-then-out-c w ↦ no_room (key_of s.key) s.nonce s.aad.now s.c.now s.t.now s.out.now w.if-out-c.true
+      | then-out-c-via-else-out-c+then-not-matches w ↦
+          forged (key_of s.key) s.nonce s.aad.now s.c.now s.t.now s.out.now w.if-out-c.false (sym w.matches.ensures ∙ w.if-not-matches.true)
+    ]
 
-pub slice_bounds-encipher-end-then-matches : goal.slice_bounds-encipher-end-then-matches
-slice_bounds-encipher-end-then-matches c = sym (length-take-le _ _ (search rules))
-
-pub returns-then-matches : goal.returns-then-matches
+pub returns : goal.returns
 unfolding ciphered inc32
-returns-then-matches c =
+returns c =
     let s = c.args in
-    let w = c.schedule_of-w.ensures in
     let rest = drop (length s.c.now) s.out.now in
     unsealed_there
     (key_of s.key)
@@ -36,24 +35,7 @@ returns-then-matches c =
     s.out.now
     c.copy.new.out
     c.encipher.new.s
-    c.if-out-n.false
-    (ap (λ (x : List State). authentic (under x (num s.key.subkey)) s.nonce s.aad.now s.c.now s.t.now) (sym w)
-    ∙ sym c.matches.ensures
-    ∙ c.if-matches.true)
+    c.if-out-c.false
+    (sym c.matches.ensures ∙ c.if-not-matches.false)
     (c.copy.ensures ∙ ap (λ (x : List ℕ). x ++ rest) (sym (take-length s.c.now)))
-    (c.encipher.ensures ∙ ap (λ (x : List State). gctr x s.nonce 2 (take (length s.c.now) c.copy.new.out)) w)
-
-pub returns : goal.returns
-returns c =
-    let s = c.args in
-    forged
-    (key_of s.key)
-    s.nonce
-    s.aad.now
-    s.c.now
-    s.t.now
-    s.out.now
-    c.if-out-n.false
-    (ap (λ (x : List State). authentic (under x (num s.key.subkey)) s.nonce s.aad.now s.c.now s.t.now) (sym c.schedule_of-w.ensures)
-    ∙ sym c.matches.ensures
-    ∙ c.if-matches.false)
+    (c.encipher.ensures ∙ ap (λ (x : List State). gctr x s.nonce 2 (take (length s.c.now) c.copy.new.out)) c.schedule.ensures)

@@ -1,19 +1,17 @@
--- What the bits that fall out feed back lies in the high word, so only that word is xored.
-use borrow.Author.Rules.{rules}
+-- What the bits that fall out feed back is the table's word, moved up.
+use mathlib.Core.Path.{ap, ◌∙◌}
+use Prim.Native.Nat.{ℕ, ◌*◌, ◌%◌, ◌/◌, ◌^◌, ◌<◌}
+use native.Mathlib.Nat.{mod-eq_of_lt}
 use native.Mathlib.Omega.{arith}
-use mathlib.Core.Path.{◌≡◌}
-use Prim.Native.Nat.{ℕ, ◌+◌, ◌*◌, ◌%◌, ◌^◌, ◌<◌}
-use Rattle.ghash.specs.Product.{num}
+use lib.Bits.{bit_xor}
+use lib.ListN.{get_or}
+use borrow.Author.Rules.{rules}
 use Rattle.ghash.proofs.NibbleLaws.{by_feedback}
 use Rattle.ghash.proofs.times_x4.Goals as goal
 
-low : (h l : ℕ) → (h * 2 ^ 64 + l) % 16 ≡ l % 16
-low h l = omega arith
-
 pub returns : goal.returns
 returns c =
-    let a = c.args in
-    let b = a.b in
-    let t = c.sixteenth-t.result in
-    let f : t.lo < 2 ^ 64 = search rules in
-    by_feedback a.f.now (num b) (b.lo % 16) t.hi t.lo c.requires (low b.hi b.lo) c.sixteenth-t.ensures f
+    let f : get_or c.feedback.result.now (c.args.b % 16) 0 < 2 ^ 64 = search rules in
+    let fits : c.from.result * 2 ^ 64 < 2 ^ 128 = omega (arith, c.from.ensures, f) in
+    ap (bit_xor (c.args.b / 16)) (mod-eq_of_lt fits ∙ ap (λ (x : ℕ). x * 2 ^ 64) c.from.ensures)
+    ∙ by_feedback c.feedback.result.now c.args.b c.feedback.ensures

@@ -1,12 +1,7 @@
 -- `hdlc_write::put_around` meets its contract: head, HCS, the information that stands there, FCS and flag are the frame.
 use borrow.Author.Rules.{rules}
 use Rattle.hdlc_write.proofs.ReplyLaws.{around}
-use Rattle.hdlc.specs.Layout.{head_bytes}
 use Rattle.hdlc_write.proofs.put_around.Goals as goal
-
-pub put_check-requires : goal.put_check-requires
-unfolding head_bytes
-put_check-requires c = search rules
 
 pub returns : goal.returns
 returns c =

@@ -5,5 +5,4 @@ use Rattle.hdlc_write.proofs.put_head.Goals as goal
 
 pub returns : goal.returns
 unfolding head_bytes
-returns c =
-    then (then (then (then c.put-format.ensures c.put_u16-destination.ensures) c.put-source.ensures) c.put-place.ensures) c.put.ensures
+returns c = then (then c.put-format.ensures c.put_number-addresses.ensures) c.put_all.ensures

@@ -1,16 +1,7 @@
 -- `hdlc_write::put_plain` meets its contract: head, FCS and flag are the frame.
-use borrow.Author.Rules.{rules}
 use Rattle.hdlc_write.proofs.ReplyLaws.{with_check, with_flag}
-use Rattle.hdlc.specs.Layout.{head_bytes, frame_of}
+use Rattle.hdlc.specs.Layout.{frame_of}
 use Rattle.hdlc_write.proofs.put_plain.Goals as goal
-
-pub put_check-last-requires : goal.put_check-last-requires
-unfolding head_bytes
-put_check-last-requires c = search rules
-
-pub put-requires : goal.put-requires
-unfolding head_bytes
-put-requires c = search rules
 
 pub returns : goal.returns
 unfolding frame_of

@@ -1,26 +1,32 @@
 -- `line::is_within` meets its contract.
-use mathlib.Core.Path.{◌≡◌, sym}
-use mathlib.Core.Bool.{and-true}
-use lib.ListN.{length}
+use Rattle.std.proofs.Common.{◌≡◌, ◌∙◌, ◌&&◌, sym, length, rules}
 use borrow.Author.Tests.{eq-eqb, ne_eqb}
 use Rattle.line.proofs.LineLaws.{within_three, byte_within}
-use borrow.Author.Rules.{rules}
 use Rattle.line.proofs.is_within.Goals as goal
-
-pub returns-then-a-o : goal.returns-then-a-o
-returns-then-a-o c =
-    let l : length c.args.a ≡ 3 = search rules in
-    let m : length c.args.o ≡ 3 = search rules in
-    rw (within_three c.args.a c.args.o l m, ne_eqb _ _ c.if-a-o.true)
+use Rattle.line.proofs.is_within.Goals.{then-a-o, else-a-o}
 
 pub returns-then-a-o-2 : goal.returns-then-a-o-2
 returns-then-a-o-2 c =
-    let l : length c.args.a ≡ 3 = search rules in
-    let m : length c.args.o ≡ 3 = search rules in
-    rw (within_three c.args.a c.args.o l m, eq-eqb _ _ c.if-a-o.false, ne_eqb _ _ c.if-a-o-2.true)
+    let a = c.args.a in
+    let o = c.args.o in
+    let l : length a ≡ 3 = search rules in
+    let m : length o ≡ 3 = search rules in
+    let two : c.if-a-o.value ≡ (byte_within a o 0 && byte_within a o 1) =
+    elim c.if-a-o.branch [
+      | then-a-o w ↦ rw (eq-eqb _ _ w.if-a-o.true) w.value-is
+      | else-a-o w ↦ rw (ne_eqb _ _ w.if-a-o.false) (w.value-is ∙ ne_eqb _ _ w.if-a-o.false)
+    ] in
+    rw (within_three a o l m, sym two ∙ c.if-a-o-2.true)
 
-pub returns : goal.returns
-returns c =
-    let l : length c.args.a ≡ 3 = search rules in
-    let m : length c.args.o ≡ 3 = search rules in
-    rw (within_three c.args.a c.args.o l m, eq-eqb _ _ c.if-a-o.false, eq-eqb _ _ c.if-a-o-2.false) (sym (and-true (byte_within c.args.a c.args.o 2)))
+pub returns-else-a-o-2 : goal.returns-else-a-o-2
+returns-else-a-o-2 c =
+    let a = c.args.a in
+    let o = c.args.o in
+    let l : length a ≡ 3 = search rules in
+    let m : length o ≡ 3 = search rules in
+    let two : c.if-a-o.value ≡ (byte_within a o 0 && byte_within a o 1) =
+    elim c.if-a-o.branch [
+      | then-a-o w ↦ rw (eq-eqb _ _ w.if-a-o.true) w.value-is
+      | else-a-o w ↦ rw (ne_eqb _ _ w.if-a-o.false) (w.value-is ∙ ne_eqb _ _ w.if-a-o.false)
+    ] in
+    rw (within_three a o l m, sym two ∙ c.if-a-o-2.false) c.if-a-o-2.false

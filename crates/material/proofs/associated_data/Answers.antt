@@ -7,4 +7,4 @@ use Rattle.material.proofs.associated_data.Goals as goal
 pub returns : goal.returns
 unfolding associated_data
 returns c =
-    full (then c.put-at.ensures c.put_16.ensures.wrote) (omega arith)
+    full (then c.put-at.ensures c.put_array.ensures.wrote) (omega arith)

@@ -8,4 +8,4 @@ use Rattle.material.proofs.nonce.Goals as goal
 pub returns : goal.returns
 unfolding nonce
 returns c =
-    full (then c.put_8-at.ensures.wrote c.put_u32.ensures) (simp length-append (omega arith))
+    full (then c.put_array-at.ensures.wrote c.put_number.ensures) (simp length-append (omega arith))

@@ -8,4 +8,4 @@ use Rattle.material.proofs.proof_data.Goals as goal
 pub returns : goal.returns
 unfolding proof_data
 returns c =
-    full (then (then c.put-a.ensures c.put_16-b.ensures.wrote) c.put_8.ensures.wrote) (simp length-append (omega arith))
+    full (then (then c.put-a.ensures c.put_array-b.ensures.wrote) c.put_array.ensures.wrote) (simp length-append (omega arith))

@@ -1,27 +1,27 @@
--- `names::are_distinct` meets its contract: each name passed stands first at its own place.
-use Prim.Native.Nat.{◌-◌}
-use mathlib.Core.Path.{◌≡◌, sym, ◌∙◌}
-use native.Mathlib.Omega.{arith}
-use borrow.Author.Rules.{rules}
-use borrow.Author.Tests.{ne_eqb, eq-eqb}
-use lib.ListN.{length}
-use Rattle.model.specs.declared.Name.{Name}
-use Rattle.model.specs.Names.{blank_name}
-use Rattle.names.proofs.SearchLaws.{tested_none, tested_fails, tested_holds, tested_all}
+-- `names::are_distinct` meets its contract: at a place of the list, the two ways to ask whether a name stands first agree.
+use Rattle.std.proofs.Common.{◌≡◌, ℕ, ◌<◌, ◌∙◌, sym, refl, Bool, true, false, cond, length, Some, None, eqb, ltb, ltb-false, arith, rules, tests}
+use borrow.Author.Tests.{ne_eqb}
+use Rattle.std.specs.List.{list_all, enumerate_from}
+use Rattle.std.specs.Option.{option_eq}
+use Rattle.std.proofs.lemmas.Iterator.{YieldsList-from_slice}
+use Rattle.std.proofs.lemmas.Iterator.Consumers.{YieldsList-from_enumerate}
+use Rattle.std.proofs.lemmas.Iterator.Search.{all_from_yields_List}
+use Rattle.model.specs.Names.{seat, among}
+use Rattle.model.proofs.ListLaws.{every_numbered, every_placed}
 use Rattle.names.proofs.are_distinct.Goals as goal
 
-pub loop-i-init : goal.loop-i-init
-loop-i-init c = let e : length c.args.names ≡ 16 = search rules in (c.requires, tested_none Name _ _ _ (omega arith))
-
-pub returns-then-at-i : goal.returns-then-at-i
-returns-then-at-i c =
-    let l = c.loop-i in
-    tested_fails Name _ _ _ _ blank_name l.invariant.1 (omega arith) (ne_eqb _ _ (λ e. c.if-at-i.true (c.seat_of-at.ensures ∙ e)))
-
-pub loop-i-preserved : goal.loop-i-preserved
-loop-i-preserved c =
-    let l = c.loop-i in
-    (l.invariant.0, tested_holds Name _ _ _ _ blank_name l.invariant.1 (omega arith) (eq-eqb _ _ (sym c.seat_of-at.ensures ∙ c.if-at-i.false)))
+is_seat : (s n i : ℕ) → i < n → option_eq eqb (cond (ltb s n) (Some s) None) (Some i) ≡ eqb s i
+is_seat s n i h = go (ltb s n) refl
+  where
+    go : (b : Bool) → ltb s n ≡ b → option_eq eqb (cond b (Some s) None) (Some i) ≡ eqb s i
+    go true e = refl
+    go false e = sym (ne_eqb s i (λ same. omega (arith, ltb-false s n e)))
 
 pub returns : goal.returns
-returns c = tested_all Name _ _ _ _ blank_name c.loop-i.invariant.1 (omega arith)
+returns c =
+    let ns = c.args.names.now in
+    let e : c.all.result ≡ list_all (λ p. option_eq eqb (cond (among p.1 ns) (Some (seat p.1 ns)) None) (Some p.0)) (enumerate_from 0 ns) =
+    all_from_yields_List (λ p. option_eq eqb (cond (among p.1 ns) (Some (seat p.1 ns)) None) (Some p.0)) _ _ _ c.all.ensures.ran (YieldsList-from_enumerate (YieldsList-from_slice ns cc) (cc)) (λ x b q k. search (rules, tests)) in
+    e
+    ∙ sym (every_numbered (λ i n. option_eq eqb (cond (among n ns) (Some (seat n ns)) None) (Some i)) 0 ns)
+    ∙ every_placed 0 ns (λ i n h. is_seat (seat n ns) (length ns) i (omega arith))

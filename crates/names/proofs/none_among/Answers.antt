@@ -1,27 +1,15 @@
--- `names::none_among` meets its contract: no name passed stands among the others.
-use Prim.Native.Nat.{◌-◌}
-use mathlib.Core.Path.{◌≡◌, sym, ap, ◌∙◌}
-use mathlib.Core.Bool.{not}
-use native.Mathlib.Omega.{arith}
-use borrow.Author.Rules.{rules}
-use lib.ListN.{length}
-use Rattle.model.specs.declared.Name.{Name}
-use Rattle.model.specs.Names.{blank_name}
-use Rattle.names.proofs.SearchLaws.{tested_none, tested_fails, tested_holds, tested_all}
+-- `names::none_among` meets its contract.
+use Rattle.std.proofs.Common.{◌≡◌, not, rules, tests}
+use Rattle.std.specs.List.{list_all}
+use Rattle.std.proofs.lemmas.Iterator.{YieldsList-from_slice}
+use Rattle.std.proofs.lemmas.Iterator.Search.{all_from_yields_List}
+use Rattle.model.specs.Names.{among}
+use Rattle.model.proofs.ListLaws.{every_all}
 use Rattle.names.proofs.none_among.Goals as goal
 
-pub loop-i-init : goal.loop-i-init
-loop-i-init c = let e : length c.args.these ≡ 16 = search rules in (c.requires.0, (c.requires.1, tested_none Name _ _ _ (omega arith)))
-
-pub returns-then-is_among : goal.returns-then-is_among
-returns-then-is_among c =
-    let l = c.loop-i in
-    tested_fails Name _ _ _ _ blank_name l.invariant.1.1 (omega arith) (ap not (sym c.is_among.ensures ∙ c.if-is_among.true))
-
-pub loop-i-preserved : goal.loop-i-preserved
-loop-i-preserved c =
-    let l = c.loop-i in
-    (l.invariant.0, (l.invariant.1.0, tested_holds Name _ _ _ _ blank_name l.invariant.1.1 (omega arith) (ap not (sym c.is_among.ensures ∙ c.if-is_among.false))))
-
 pub returns : goal.returns
-returns c = tested_all Name _ _ _ _ blank_name c.loop-i.invariant.1.1 (omega arith)
+returns c =
+    let a = c.args in
+    let e : c.all.result ≡ list_all (λ m. not (among m a.names.now)) a.these.now =
+    all_from_yields_List (λ m. not (among m a.names.now)) _ _ _ c.all.ensures.ran (YieldsList-from_slice a.these.now cc) (λ x b q k. search (rules, tests)) in
+    rw (e, every_all (λ m. not (among m a.names.now)) 0 a.these.now)

@@ -3,4 +3,4 @@ use Rattle.p2.proofs.settle.Goals as goal
 
 pub returns : goal.returns
 returns c =
-    rw (c.changed-body.ensures, c.kept_transfer-kept.ensures, c.left_by-left.ensures)
+    rw (c.changed.ensures, c.kept_transfer-kept.ensures, c.left_by-left.ensures)

@@ -1,32 +1,44 @@
 -- `results::read_attribute` meets its contract: by the tests in their order.
 use mathlib.Core.Path.{refl, sym, ◌∙◌}
 use borrow.Author.Tests.{eq-eqb, ne_eqb}
+use Rattle.std.proofs.lemmas.Result.{err_from_is_err_and}
 use Rattle.model.specs.Objects.{attribute_read}
 use Rattle.model.specs.State.{idle}
 use Rattle.body.specs.View.{body_of}
 use Rattle.body.proofs.BodyLaws.{sound_fits}
+use Rattle.results.proofs.ResultLaws.{not_found}
 use Rattle.results.proofs.read_attribute.Goals as goal
 
-pub returns-in_default : goal.returns-in_default
+pub returns-in_err-object : goal.returns-in_err-object
 unfolding attribute_read
-returns-in_default c = rw c.in_default.is (record { starts = idle; means = refl; writable = tt })
+returns-in_err-object c =
+    let p = err_from_is_err_and c.from_residual.result c.from_residual.ensures.1 in
+    let n = not_found c.in_err-object.ensures.value in
+    rw (p.1, p.2, n.1, n.0) (record { starts = idle; means = refl; writable = tt })
 
-pub returns-then-class-right : goal.returns-then-class-right
+pub returns-then-query-object : goal.returns-then-query-object
 unfolding attribute_read
-returns-then-class-right c = rw (c.in-Known.is, ne_eqb _ _ c.if-class-right.true) (record { starts = idle; means = refl; writable = tt })
+returns-then-query-object c =
+    rw (c.in_ok-object.ensures.ok_part, ne_eqb _ _ c.if-query-object.true) (record { starts = idle; means = refl; writable = tt })
 
 pub returns-then-not-serves : goal.returns-then-not-serves
 unfolding attribute_read
 returns-then-not-serves c =
-    rw (c.in-Known.is, eq-eqb _ _ c.if-class-right.false, sym c.serves.ensures ∙ c.if-not-serves.true) (record { starts = idle; means = refl; writable = tt })
+    rw (c.in_ok-object.ensures.ok_part, eq-eqb _ _ c.if-query-object.false, sym c.serves.ensures ∙ c.if-not-serves.true)
+    (record { starts = idle; means = refl; writable = tt })
 
-pub pick_rows-p-requires : goal.pick_rows-p-requires
-pick_rows-p-requires c =
-    (sound_fits c.args.body c.requires).rows
+pub pick_rows-requires : goal.pick_rows-requires
+pick_rows-requires c = (sound_fits c.args.body c.requires).rows
+
+pub returns-in_err-which : goal.returns-in_err-which
+unfolding attribute_read body_of
+returns-in_err-which c =
+    let p = err_from_is_err_and c.from_residual-in_err-which.result c.from_residual-in_err-which.ensures.1 in
+    rw (p.1, p.2, c.in_ok-object.ensures.ok_part, eq-eqb _ _ c.if-query-object.false, sym c.serves.ensures ∙ c.if-not-serves.false, sym (c.takes_selector-belongs.ensures c.args.query.name), sym c.in_err-which.ensures)
+    (record { starts = idle; means = refl; writable = tt })
 
 pub returns : goal.returns
 unfolding attribute_read body_of
 returns c =
-    let a = c.args in
-    rw (c.in-Known.is, eq-eqb _ _ c.if-class-right.false, sym c.serves.ensures ∙ c.if-not-serves.false, sym (c.takes_selector-belongs.ensures a.query.name), sym c.pick_rows-p.ensures)
-    (c.show.ensures _ c.pick_rows-p.ensures)
+    rw (c.in_ok-object.ensures.ok_part, eq-eqb _ _ c.if-query-object.false, sym c.serves.ensures ∙ c.if-not-serves.false, sym (c.takes_selector-belongs.ensures c.args.query.name), sym c.in_ok-which.ensures)
+    (c.show.ensures _ c.in_ok-which.ensures)

@@ -1,6 +1,6 @@
 -- `wire_write::move_down` meets its contract. At one place nothing is to be done. The invariant: the first i bytes are moved.
-use mathlib.Core.Path.{refl}
-use Prim.Native.Nat.{◌-◌}
+use mathlib.Core.Path.{◌≡◌, refl}
+use native.Mathlib.Omega.{arith}
 use lib.ListN.{take, drop, length-set}
 use lib.Seq.{paste-zero}
 use borrow.Author.Rules.{rules}
@@ -14,15 +14,16 @@ returns-then-to-from c =
     rw c.if-to-from.true (stands a.out.now a.from a.n (search rules))
 
 pub loop-i-init : goal.loop-i-init
-loop-i-init c = let a = c.args in (search rules, refl, paste-zero _ a.to (take a.n (drop a.from a.out.now)))
+loop-i-init c = let a = c.args in (refl, paste-zero _ a.to (take a.n (drop a.from a.out.now)))
 
 pub loop-i-preserved : goal.loop-i-preserved
 loop-i-preserved c =
     let a = c.args in
-    (search rules, simp length-set (search rules), rw c.loop-i.invariant.2 (moved_on a.out.now a.from a.to a.n c.loop-i.i (search rules) (search rules) (search rules)))
+    (simp length-set c.loop-i.invariant.0, rw c.loop-i.invariant.1 (moved_on a.out.now a.from a.to a.n c.loop-i.i (search rules) (search rules) (search rules)))
 
 pub returns : goal.returns
 returns c =
     let a = c.args in
+    let i : c.loop-i.i ≡ a.n = omega (arith, c.loop-i.auto.i-end, c.loop-i-test.false) in
     let s = length_stretch a.out.now a.from a.n (search rules) in
-    copied a.out.now a.to (take a.n (drop a.from a.out.now)) _ _ (search rules) (search rules) (search rules) c.loop-i.invariant.2
+    rw i at (copied a.out.now a.to (take a.n (drop a.from a.out.now)) _ _ (search rules) (search rules) (search rules) c.loop-i.invariant.1)

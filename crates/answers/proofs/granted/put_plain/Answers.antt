@@ -33,10 +33,10 @@ unfolding body_of
 put_all-a-requires c =
     omega (arith, rw c.in-Device.is at c.requires, device_long c.args.body _ c.well_formed.1.1.1.0)
 
-pub put_16-requires : goal.put_16-requires
+pub put_array-requires : goal.put_array-requires
 unfolding body_of
-put_16-requires c =
-    omega (arith, rw c.in-Device.is at c.requires, device_long c.args.body _ c.well_formed.1.1.1.0)
+put_array-requires c =
+    (omega arith, omega (arith, rw c.in-Device.is at c.requires, device_long c.args.body _ c.well_formed.1.1.1.0))
 
 pub returns-in-Clock : goal.returns-in-Clock
 unfolding body_of
@@ -53,4 +53,4 @@ returns-in-Date c = rw c.in-Date.is c.put_date.ensures
 pub returns-in-Device : goal.returns-in-Device
 unfolding body_of
 returns-in-Device c =
-    rw c.in-Device.is (then c.put_all-a.ensures c.put_16.ensures.wrote)
+    rw c.in-Device.is (then c.put_all-a.ensures c.put_array.ensures.wrote)

@@ -14,5 +14,5 @@ pub returns : goal.returns
 unfolding body_of transfer_of
 returns c b =
     let a = c.args in
-    let w = c.put_refusal-next.ensures in
-    record { refusal = refl; wrote = w; short = omega (arith, w.next, refused_fits a.invoke a.number a.code); body = rw (c.leaves.ensures, c.no_transfer.ensures) refl }
+    let w = rw c.from.ensures at c.put_refusal-next.ensures in
+    record { refusal = refl; wrote = w; short = omega (arith, w.next, refused_fits a.invoke a.number c.from.result); body = rw (c.leaves.ensures, c.no_transfer.ensures) refl }

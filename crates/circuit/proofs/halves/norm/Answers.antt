@@ -6,4 +6,4 @@ use Rattle.circuit.proofs.halves.norm.Goals as goal
 
 pub returns : goal.returns
 unfolding norm
-returns c = λ j. c.add.ensures j ∙ ap₂ bit_xor (c.times.ensures j) (c.scaled_square.ensures j)
+returns c = λ j. c.bitxor.ensures j ∙ ap₂ bit_xor (c.times.ensures j) (c.scaled_square.ensures j)

@@ -1,14 +1,10 @@
--- `cosem::shapes::entries_in` meets its contract.
+-- `cosem::shapes::entries_in` meets its contract: a value of the shape has room for its four numbers.
 use mathlib.Core.Path.{sym, ◌∙◌}
 use native.Mathlib.Omega.{arith}
 use Rattle.wire.proofs.ReadingLaws.{number_here}
 use Rattle.cosem.specs.Entries.{entries_in}
 use Rattle.cosem.proofs.ShapeLaws.{descriptor_size}
 use Rattle.cosem.proofs.shapes.entries_in.Goals as goal
-
-pub returns-then-not-is_entry_descriptor : goal.returns-then-not-is_entry_descriptor
-unfolding entries_in
-returns-then-not-is_entry_descriptor c = rw (sym c.is_entry_descriptor.ensures ∙ c.if-not-is_entry_descriptor.true)
 
 pub returns : goal.returns
 unfolding entries_in
@@ -19,15 +15,11 @@ returns c =
     rw (
       t,
       c.found.ensures,
-      c.u32_at.ensures,
       number_here v 3 4 (omega arith),
       c.found-2.ensures,
-      c.u32_at-2.ensures,
       number_here v 8 4 (omega arith),
       c.found-3.ensures,
-      c.u16_at.ensures,
       number_here v 13 2 (omega arith),
       c.found-4.ensures,
-      c.u16_at-2.ensures,
       number_here v 16 2 (omega arith),
     )

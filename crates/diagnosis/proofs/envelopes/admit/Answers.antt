@@ -1,21 +1,31 @@
 -- `diagnosis::envelopes::admit` meets its contract.
-use mathlib.Core.Path.{sym, ◌∙◌}
+use mathlib.Core.Path.{◌≡◌, sym, ap, ◌∙◌}
+use Rattle.std.specs.Prelude.{Err}
+use Rattle.std.proofs.lemmas.Result.{err_from_is_err_and}
 use Rattle.line.specs.View.{line_of}
+use Rattle.call_tests.specs.declared.LineTest.TheVariants.{EnvelopeShape}
 use Rattle.diagnosis.proofs.EnvelopeLaws.{misshapen, unopened, outside, opens_inside}
 use Rattle.diagnosis.proofs.envelopes.admit.Goals as goal
 
-pub returns-in_default : goal.returns-in_default
-returns-in_default c =
-    let s = c.args in misshapen (line_of s.line) s.client _ s.tag s.apdu.now (sym c.read_shape.ensures ∙ c.in_default.is)
+pub returns-in_err-ok_or : goal.returns-in_err-ok_or
+returns-in_err-ok_or c =
+    let s = c.args in
+    let p = err_from_is_err_and c.from_residual.result c.from_residual.ensures.1 in
+    let missing = c.in_err-ok_or.ensures.ok_part in
+    let test : c.in_err-ok_or.field-0.0 ≡ EnvelopeShape = let z = rw missing at c.in_err-ok_or.ensures.value in cc in
+    rw (p.1, p.2, test) (misshapen (line_of s.line) s.client _ s.tag s.apdu.now (sym c.read_shape.ensures ∙ missing))
 
-pub returns-in-Unopened : goal.returns-in-Unopened
-returns-in-Unopened c =
-    let s = c.args in unopened (line_of s.line) s.client _ s.tag s.apdu.now (sym c.read_shape.ensures ∙ c.in-Shaped.is) c.title_of-title.ensures c.counters_of-pair.ensures c.admit_envelope-admission.ensures c.in-Unopened.is
+pub returns-in-Err-Unopened : goal.returns-in-Err-Unopened
+returns-in-Err-Unopened c =
+    let s = c.args in
+    unopened (line_of s.line) s.client _ s.tag s.apdu.now (sym c.read_shape.ensures ∙ c.in_ok-ok_or.ensures.ok_part) c.title_of-title.ensures c.counters_of-pair.ensures c.admit_envelope.ensures (c.in-Err-Unopened.is ∙ ap Err c.in-Err-Unopened.field-0-is)
 
-pub returns-in-OutsideWindow : goal.returns-in-OutsideWindow
-returns-in-OutsideWindow c =
-    let s = c.args in outside (line_of s.line) s.client _ s.tag s.apdu.now (sym c.read_shape.ensures ∙ c.in-Shaped.is) c.title_of-title.ensures c.counters_of-pair.ensures c.admit_envelope-admission.ensures c.in-OutsideWindow.is
+pub returns-in-Err-OutsideWindow : goal.returns-in-Err-OutsideWindow
+returns-in-Err-OutsideWindow c =
+    let s = c.args in
+    outside (line_of s.line) s.client _ s.tag s.apdu.now (sym c.read_shape.ensures ∙ c.in_ok-ok_or.ensures.ok_part) c.title_of-title.ensures c.counters_of-pair.ensures c.admit_envelope.ensures (c.in-Err-OutsideWindow.is ∙ ap Err c.in-Err-OutsideWindow.field-0-is)
 
-pub returns-in-Admitted : goal.returns-in-Admitted
-returns-in-Admitted c =
-    let s = c.args in opens_inside (line_of s.line) s.client _ s.tag s.apdu.now (sym c.read_shape.ensures ∙ c.in-Shaped.is) c.title_of-title.ensures c.counters_of-pair.ensures c.admit_envelope-admission.ensures c.in-Admitted.is
+pub returns-in-Ok : goal.returns-in-Ok
+returns-in-Ok c =
+    let s = c.args in
+    opens_inside (line_of s.line) s.client _ s.tag s.apdu.now (sym c.read_shape.ensures ∙ c.in_ok-ok_or.ensures.ok_part) c.title_of-title.ensures c.counters_of-pair.ensures c.admit_envelope.ensures c.in-Ok.is

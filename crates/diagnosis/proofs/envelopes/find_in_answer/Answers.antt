@@ -1,15 +1,18 @@
 -- `diagnosis::envelopes::find_in_answer` meets its contract.
-use mathlib.Core.Path.{sym, ◌∙◌}
+use mathlib.Core.Path.{refl, sym, ap, ◌∙◌}
+use Rattle.std.specs.Prelude.{Some, Err}
+use Rattle.line.specs.View.{line_of}
+use Rattle.ending.proofs.Envelopes.{proves_under}
 use Rattle.diagnosis.proofs.envelopes.find_in_answer.Goals as goal
 
-pub returns-in-Asks : goal.returns-in-Asks
-returns-in-Asks c a e =
-    rw (sym c.read_action-reading.ensures ∙ c.in-Asks.is) (c.judge.ensures a e)
+pub returns-then-not-proves_itself : goal.returns-then-not-proves_itself
+returns-then-not-proves_itself c a e =
+    let s = c.args in
+    let q = c.in-Some-Asks.request in
+    rw (sym c.read_action.ensures ∙ c.in-Some-Asks.is ∙ ap Some c.in-Some-Asks.field-0-is, sym c.is_challenge.ensures ∙ c.if-not-is_challenge.false, proves_under s.client (line_of s.line) a s.counter s.text.now q e c.proves_itself.ensures ∙ c.if-not-proves_itself.true) (ap Err c.into-then-not-proves_itself.ensures)
 
-pub returns-in-GoesOn : goal.returns-in-GoesOn
-returns-in-GoesOn c a e =
-    rw (sym c.read_action-reading.ensures ∙ c.in-GoesOn.is) c.of_line.ensures
-
-pub returns-in-Malformed : goal.returns-in-Malformed
-returns-in-Malformed c a e =
-    rw (sym c.read_action-reading.ensures ∙ c.in-Malformed.is) c.of_line-in-Malformed.ensures
+pub returns : goal.returns
+returns c a e =
+    let s = c.args in
+    let q = c.in-Some-Asks.request in
+    rw (sym c.read_action.ensures ∙ c.in-Some-Asks.is ∙ ap Some c.in-Some-Asks.field-0-is, sym c.is_challenge.ensures ∙ c.if-not-is_challenge.false, proves_under s.client (line_of s.line) a s.counter s.text.now q e c.proves_itself.ensures ∙ c.if-not-proves_itself.false) refl

@@ -3,9 +3,12 @@ use mathlib.Core.Path.{◌≡◌, subst}
 use Rattle.model.specs.Objects.{Request, Service, Meaning, meaning}
 use Rattle.model.specs.State.{Body}
 use Rattle.cosem.specs.Requests.{requested, service_in}
+use Rattle.line.specs.View.{line_of}
+use Rattle.protocol.specs.Clients.{blocks_in, selective_in}
 use Rattle.body.specs.View.{body_of}
 use Rattle.body.proofs.BodyLaws.{sound_fits}
-use Rattle.call_tests.specs.declared.Finding.{Finding}
+use Rattle.meter.proofs.MeterLaws.{sound_body}
+use Rattle.call_tests.specs.Finding.{Finding}
 use Rattle.call_tests.specs.Road.{body_finds, service_finds}
 use Rattle.diagnosis.proofs.requests.find_in_request.Goals as goal
 
@@ -16,14 +19,15 @@ named b q w s r {n} {m} {v} e f h =
 
 pub find-found-requires : goal.find-found-requires
 find-found-requires c =
-    (sound_fits c.args.body c.requires).registers
+    (sound_fits c.args.ready.meter.body (sound_body c.args.ready.meter c.args.ready.is_sound)).registers
 
 pub returns : goal.returns
 unfolding body_finds requested body_of
 returns c =
     let a = c.args in
     let s = service_in a.apdu.now a.asked.wanted in
-    named (body_of a.body)
-    (λ n. record { client = a.client; invoke = a.asked.invoke; selective = a.selective; blocks = a.blocks; class = a.asked.class; name = n; service = s })
-    (λ n. meaning a.client n (body_of a.body).store.registers)
-    s _ c.name_in-name.ensures c.find-found.ensures c.find_in_wanted.ensures
+    let l = line_of a.ready.meter.line in
+    named (body_of a.ready.meter.body)
+    (λ n. record { client = a.client; invoke = a.asked.invoke; selective = selective_in a.client l; blocks = blocks_in a.client l; class = a.asked.class; name = n; service = s })
+    (λ n. meaning a.client n (body_of a.ready.meter.body).store.registers)
+    s _ c.name_in-name.ensures c.find-found.ensures (rw (c.is_selective.ensures, c.are_blocks_agreed.ensures) at c.find_in_wanted.ensures)

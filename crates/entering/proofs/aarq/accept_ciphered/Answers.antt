@@ -17,10 +17,10 @@ pub returns : goal.returns
 unfolding accepted_ciphered line_of
 returns c e b =
     let l = line_of c.args.line in
-    let k = c.args.client in
+    let k = c.args.opened.client in
     let after = pending c.agreed-agreed.result c.args.key c.args.challenge c.args.secrets.challenge in
-    let pair = c.accept-pair.ensures ∙ ap (λ (n : Counters). accepting n c.args.counter) c.counters_of-held.ensures in
+    let pair = c.accept.ensures ∙ ap (λ (n : Counters). accepting n c.args.opened.counter) c.counters_of-held.ensures in
     rw (sym c.agreed-agreed.ensures, sym pair, sym c.take-next.ensures)
-    (says_line none _ (meter_with c.args.line b) refl (rw e at c.send_accepted_ciphered-count.ensures) _ c.pending-after.ensures refl
-    (counted c.pending-after.result k c.take-next.result.counters (associates (Ciphering k) after l)
-    (stands_ciphered c.pending-after.result k after l refl (λ g. absurd (false≢true g)))))
+    (says_line none _ (meter_with c.args.line b) refl (rw e at c.send_accepted_ciphered-count.ensures) _ c.pending.ensures refl
+    (counted c.pending.result k c.take-next.result.counters (associates (Ciphering k) after l)
+    (stands_ciphered c.pending.result k after l refl (λ g. absurd (false≢true g)))))

@@ -14,5 +14,5 @@ unfolding accepted_plain line_of
 returns c b =
     let l = line_of c.args.line in
     rw (sym c.agreed-agreed.ensures)
-    (says_line none _ (meter_with c.args.line b) refl c.send_accepted_plain-count.ensures _ c.associated_plain-next.ensures refl
-    (stands_plain c.associated_plain-next.result (associated c.agreed-agreed.result []) l refl))
+    (says_line none _ (meter_with c.args.line b) refl c.send_accepted_plain-count.ensures _ c.associated_plain.ensures refl
+    (stands_plain c.associated_plain.result (associated c.agreed-agreed.result []) l refl))

@@ -10,9 +10,9 @@ returns-in_default c b =
 
 pub slice_bounds-initiate-end : goal.slice_bounds-initiate-end
 slice_bounds-initiate-end c =
-    (opened_text c.open_envelope.ensures c.in-Opens.is).1
+    (opened_text c.open_envelope.ensures c.in-Some.is).1
 
 pub returns : goal.returns
 returns c b =
-    rw (envelope_opens 0x21 c.args.envelope.now c.lent_keys-keys.ensures c.title_of-title.ensures c.open_envelope.ensures c.in-Opens.is)
+    rw (envelope_opens 0x21 c.args.envelope.now c.lent_keys-keys.ensures c.title_of-title.ensures c.open_envelope.ensures c.in-Some.is)
     (c.initiate.ensures c.lent_keys-keys.ensures b)

@@ -17,10 +17,10 @@ pub returns : goal.returns
 unfolding disproved line_of
 returns c a e b =
     let l = line_of c.args.line in
-    let k = c.args.client in
-    let pair = c.accept-pair.ensures ∙ ap (λ (n : Counters). accepting n c.args.counter) c.counters_of-held.ensures in
+    let k = c.args.opened.client in
+    let pair = c.accept.ensures ∙ ap (λ (n : Counters). accepting n c.args.opened.counter) c.counters_of-held.ensures in
     rw (sym pair, sym c.take-first.ensures)
     (says_line wrong_proof _ (meter_with c.args.line b) refl (rw e at c.send_denial-count.ensures) _
-    (c.ended-next.ensures.view ∙ ap (associates (Ciphering k) none) c.with_counters-advanced.ensures ∙ associates_counted k none c.take-first.result.counters l) refl
-    (counted c.ended-next.result k c.take-first.result.counters (associates (Ciphering k) none l)
-    (ends_one c.ended-next.result (Ciphering k) (with_association none (peer (Ciphering k) l)) l c.ended-next.ensures.wiped)))
+    (c.ended.ensures.view ∙ ap (associates (Ciphering k) none) c.with_counters-advanced.ensures ∙ associates_counted k none c.take-first.result.counters l) refl
+    (counted c.ended.result k c.take-first.result.counters (associates (Ciphering k) none l)
+    (ends_one c.ended.result (Ciphering k) (with_association none (peer (Ciphering k) l)) l c.ended.ensures.wiped)))

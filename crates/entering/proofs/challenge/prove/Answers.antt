@@ -16,10 +16,10 @@ pub returns : goal.returns
 unfolding proved line_of
 returns c a e b =
     let l = line_of c.args.line in
-    let k = c.args.client in
+    let k = c.args.opened.client in
     let after = associated (agreed_in (held k l)) (key_in (held k l)) in
-    let pair = c.accept-pair.ensures ∙ ap (λ (n : Counters). accepting n c.args.counter) c.counters_of-held.ensures in
-    rw (sym c.client_challenge-challenge.ensures, sym pair, sym c.take-first.ensures, sym c.take-second.ensures)
-    (says_line none _ (meter_with c.args.line b) refl (rw e at c.send_proof-count.ensures) _ c.associated_ciphered-next.ensures.view refl
-    (counted c.associated_ciphered-next.result k c.take-second.result.counters (associates (Ciphering k) after l)
-    (stands_ciphered c.associated_ciphered-next.result k after l refl (λ _. c.associated_ciphered-next.ensures.wiped))))
+    let pair = c.accept.ensures ∙ ap (λ (n : Counters). accepting n c.args.opened.counter) c.counters_of-held.ensures in
+    rw (sym c.client_challenge.ensures, sym pair, sym c.take-first.ensures, sym c.take-second.ensures)
+    (says_line none _ (meter_with c.args.line b) refl (rw e at c.send_proof-count.ensures) _ c.associated_ciphered.ensures.view refl
+    (counted c.associated_ciphered.result k c.take-second.result.counters (associates (Ciphering k) after l)
+    (stands_ciphered c.associated_ciphered.result k after l refl (λ _. c.associated_ciphered.ensures.wiped))))

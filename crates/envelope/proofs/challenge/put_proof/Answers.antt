@@ -7,4 +7,4 @@ pub returns : goal.returns
 unfolding proof_value
 returns c =
     rw (← c.nonce-n.ensures, ← c.proof_data-data.ensures, ← c.gmac-t.ensures)
-    (then c.put_all-a.ensures (then c.put_u32-b.ensures c.put_12.ensures.wrote))
+    (then c.put_all-a.ensures (then c.put_number-b.ensures c.put_array.ensures.wrote))

@@ -16,13 +16,13 @@ slice_bounds-seal-end-2 c =
     let f = length_head a.tag a.counter a.n in
     search rules
 
-pub put_12-requires : goal.put_12-requires
-put_12-requires c =
+pub put_array-requires : goal.put_array-requires
+put_array-requires c =
     let a = c.args in
-    tag_room (keys_of a.keys) a.title a.tag a.counter a.n a.at a.out.now c.requires.1 c.put_head-start.ensures refl c.seal-t.ensures
+    (omega arith, tag_room (keys_of a.keys) a.title a.tag a.counter a.n a.at a.out.now c.requires.1 c.put_head-start.ensures refl c.seal-t.ensures)
 
 pub returns : goal.returns
 returns c =
     let a = c.args in
     closes (keys_of a.keys) a.title a.tag a.counter a.n a.at a.out.now c.requires.1 c.put_head-start.ensures refl c.seal-t.ensures
-    c.nonce-v.ensures c.associated_data-data.ensures c.put_12.ensures.wrote
+    c.nonce-v.ensures c.associated_data-data.ensures c.put_array.ensures.wrote

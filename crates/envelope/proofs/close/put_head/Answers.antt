@@ -20,11 +20,11 @@ put_length-b-requires c = (search rules, omega (arith, ap length (same c.args.n)
 pub put-c-requires : goal.put-c-requires
 put-c-requires c = omega (arith, ap length (same c.args.n))
 
-pub put_u32-requires : goal.put_u32-requires
-put_u32-requires c = omega (arith, ap length (same c.args.n))
+pub put_number-requires : goal.put_number-requires
+put_number-requires c = omega (arith, ap length (same c.args.n))
 
 pub returns : goal.returns
 unfolding head
 returns c =
     let n = c.args.n in
-    rw (← same n) (rw append_assoc at (then (then (then c.put-a.ensures c.put_length-b.ensures) c.put-c.ensures) c.put_u32.ensures))
+    rw (← same n) (rw append_assoc at (then (then (then c.put-a.ensures c.put_length-b.ensures) c.put-c.ensures) c.put_number.ensures))

@@ -8,8 +8,8 @@ returns-in_default c = unopened c.open_envelope.ensures c.in_default.is
 
 pub returns-then-is_in_window : goal.returns-then-is_in_window
 returns-then-is_in_window c =
-    inside c.open_envelope.ensures c.in-Opens.is (sym c.is_in_window.ensures ∙ c.if-is_in_window.true)
+    inside c.open_envelope.ensures c.in-Some.is (sym c.is_in_window.ensures ∙ c.if-is_in_window.true)
 
 pub returns : goal.returns
 returns c =
-    outside c.open_envelope.ensures c.in-Opens.is (sym c.is_in_window.ensures ∙ c.if-is_in_window.false)
+    outside c.open_envelope.ensures c.in-Some.is (sym c.is_in_window.ensures ∙ c.if-is_in_window.false)

@@ -3,7 +3,7 @@ use mathlib.Core.Path.{refl}
 use Rattle.image.specs.Layout.{name_part}
 use Rattle.image.proofs.ListLaws.{whole_always}
 use Rattle.image.proofs.TakenLaws.{name_taken}
-use Rattle.image.proofs.Sizes.{sizes}
+use Rattle.image.specs.Sizes.{sizes}
 use Rattle.image.proofs.lists.are_names.Goals as goal
 
 pub returns : goal.returns

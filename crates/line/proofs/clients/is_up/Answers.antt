@@ -5,4 +5,4 @@ use Rattle.line.proofs.PartyLaws.{peer_of_lem}
 use Rattle.line.proofs.clients.is_up.Goals as goal
 
 pub returns : goal.returns
-returns c = ap (λ (p : Peer). p.up) (peer_of_lem c.args.client c.args.line _ c.party_of-p.ensures)
+returns c = ap (λ (p : Peer). p.up) (peer_of_lem c.args.client c.args.line _ c.party_of.ensures)

@@ -3,4 +3,4 @@ use Rattle.meter.proofs.CanonicalLaws.{meter_clear}
 use Rattle.meter.proofs.Meter.cleared.Goals as goal
 
 pub returns : goal.returns
-returns c = meter_clear _ _ _ c.clear_line-line.ensures c.clear_body-body.ensures
+returns c = meter_clear _ _ _ c.clear_line.ensures c.clear_body.ensures

@@ -17,4 +17,4 @@ returns-then-not-registers_accepted c =
 pub returns : goal.returns
 unfolding registers_of
 returns c =
-    rw c.done.ensures (accepts _ c.args.self _ (sym c.is_sound.ensures ∙ c.if-not-is_sound.false) (λ p. registers_given p c.args.self (record { count = c.args.count; items = c.args.registers }) _ _ _ (sym c.registers_accepted.ensures ∙ c.if-not-registers_accepted.false) c.no_columns-columns.ensures (none_held c.no_rows-rows.ensures) (broken_as _ c.broken-ended.ensures)))
+    rw c.done.ensures (accepts _ c.args.self _ (sym c.is_sound.ensures ∙ c.if-not-is_sound.false) (λ p. registers_given p c.args.self (record { count = c.args.count; items = c.args.registers }) _ _ _ (sym c.registers_accepted.ensures ∙ c.if-not-registers_accepted.false) c.no_columns.ensures (none_held c.no_rows.ensures) (broken_as _ c.broken.ensures)))

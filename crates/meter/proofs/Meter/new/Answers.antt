@@ -4,4 +4,4 @@ use Rattle.meter.proofs.Meter.new.Goals as goal
 
 pub returns : goal.returns
 returns c =
-    fresh _ _ _ _ c.new_line-l.ensures c.new_body-b.ensures c.cleared.ensures
+    fresh _ _ _ _ c.new_line.ensures c.new_body.ensures c.cleared.ensures

@@ -10,4 +10,4 @@ returns-then-not-is_sound c = rw c.refused.ensures (record { owned = unsound _ _
 
 pub returns : goal.returns
 returns c =
-    rw c.done.ensures (record { owned = accepts _ c.args.self _ (sym c.is_sound.ensures ∙ c.if-not-is_sound.false) (λ p. powered p c.args.self _ _ _ c.powered_up-line.ensures.view (none_held c.no_rows-rows.ensures) c.no_transfer-transfer.ensures); wiped = λ _. c.powered_up-line.ensures.wiped })
+    rw c.done.ensures (record { owned = accepts _ c.args.self _ (sym c.is_sound.ensures ∙ c.if-not-is_sound.false) (λ p. powered p c.args.self _ _ _ c.powered_up-self.ensures.view (none_held c.no_rows.ensures) c.no_transfer.ensures); wiped = λ _. c.powered_up-self.ensures.wiped })

@@ -20,4 +20,4 @@ returns-then-not-columns_accepted c =
 pub returns : goal.returns
 unfolding columns_of
 returns c =
-    rw c.done.ensures (accepts _ c.args.self _ (sym c.is_sound.ensures ∙ c.if-not-is_sound.false) (λ p. columns_set p c.args.self (record { count = c.args.count; items = c.args.columns }) _ _ (sym c.columns_accepted.ensures ∙ c.if-not-columns_accepted.false) (none_held c.no_rows-rows.ensures) (broken_as _ c.broken-ended.ensures)))
+    rw c.done.ensures (accepts _ c.args.self _ (sym c.is_sound.ensures ∙ c.if-not-is_sound.false) (λ p. columns_set p c.args.self (record { count = c.args.count; items = c.args.columns }) _ _ (sym c.columns_accepted.ensures ∙ c.if-not-columns_accepted.false) (none_held c.no_rows.ensures) (broken_as _ c.broken.ensures)))

@@ -10,9 +10,9 @@ pub returns-then-not-is_valid : goal.returns-then-not-is_valid
 returns-then-not-is_valid c =
     rw c.refused-then-not-is_valid.ensures (refuses _ c.args.self _ (sym c.is_sound.ensures ∙ c.if-not-is_sound.false) (λ p. tick_refused p c.args.self c.args.clock (sym c.is_valid.ensures ∙ c.if-not-is_valid.true)))
 
-pub ticked-next-requires : goal.ticked-next-requires
-ticked-next-requires c = fits _ (sym c.is_sound.ensures ∙ c.if-not-is_sound.false)
+pub ticked-self-requires : goal.ticked-self-requires
+ticked-self-requires c = fits _ (sym c.is_sound.ensures ∙ c.if-not-is_sound.false)
 
 pub returns : goal.returns
 returns c =
-    rw c.done.ensures (accepts _ c.args.self _ (sym c.is_sound.ensures ∙ c.if-not-is_sound.false) (λ p. tick_taken p c.args.self c.args.clock _ (sym c.is_valid.ensures ∙ c.if-not-is_valid.false) c.ticked-next.ensures))
+    rw c.done.ensures (accepts _ c.args.self _ (sym c.is_sound.ensures ∙ c.if-not-is_sound.false) (λ p. tick_taken p c.args.self c.args.clock _ (sym c.is_valid.ensures ∙ c.if-not-is_valid.false) c.ticked-self.ensures))

@@ -1,11 +1,19 @@
 -- `objects::table::find_device` meets its contract.
 use mathlib.Core.Path.{sym, ◌∙◌}
+use lib.ListN.{get_or}
+use Rattle.model.specs.Names.{blank_name}
+use Rattle.model.proofs.NameLaws.{eq_same_name}
 use Rattle.objects.proofs.TableLaws.{device_is}
 use Rattle.objects.proofs.table.find_device.Goals as goal
 
-pub returns-then-not-same_name : goal.returns-then-not-same_name
-returns-then-not-same_name c = rw (sym (device_is c.own_names-own.result c.args.name c.own_names-own.ensures) ∙ sym c.same_name.ensures ∙ c.if-not-same_name.true)
+pub returns-then-eq : goal.returns-then-eq
+returns-then-eq c =
+    let own = c.own_names-own.result in
+    let n = c.args.name in
+    rw (c.known.ensures, sym (device_is own n c.own_names-own.ensures) ∙ sym (eq_same_name (get_or own 4 blank_name) n) ∙ sym c.eq.ensures ∙ c.if-eq.true)
 
-pub returns : goal.returns
-returns c =
-    rw (c.known.ensures, sym (device_is c.own_names-own.result c.args.name c.own_names-own.ensures) ∙ sym c.same_name.ensures ∙ c.if-not-same_name.false)
+pub returns-else-eq : goal.returns-else-eq
+returns-else-eq c =
+    let own = c.own_names-own.result in
+    let n = c.args.name in
+    rw (sym (device_is own n c.own_names-own.ensures) ∙ sym (eq_same_name (get_or own 4 blank_name) n) ∙ sym c.eq.ensures ∙ c.if-eq.false)

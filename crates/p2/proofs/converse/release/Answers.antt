@@ -20,5 +20,5 @@ unfolding released
 returns c b =
     let l = line_of c.args.line in
     rw (sym c.is_release.ensures ∙ c.if-not-is_release.false)
-    (says_line none (apdu c.args.head release_response) (meter_with c.args.line b) refl c.send_release-count.ensures _ c.ended-next.ensures.view refl
-    (ends_one c.ended-next.result c.args.client (with_association no_association (peer c.args.client l)) l c.ended-next.ensures.wiped))
+    (says_line none (apdu c.args.head release_response) (meter_with c.args.line b) refl c.send_release.ensures _ c.ended.ensures.view refl
+    (ends_one c.ended.result c.args.client (with_association no_association (peer c.args.client l)) l c.ended.ensures.wiped))

@@ -1,7 +1,5 @@
 -- `p2::links::link_down` meets its contract.
 use mathlib.Core.Path.{refl, sym, ◌∙◌}
-use native.Mathlib.Omega.{arith}
-use Rattle.model.proofs.LimitFacts.{reply_room_lem}
 use Rattle.protocol.specs.Rulings.{none, link_down_while_down, ua}
 use Rattle.protocol.specs.Decide.{link_down}
 use Rattle.ending.proofs.Endings.{says_line, ends_one}
@@ -16,14 +14,10 @@ unfolding link_down
 returns-then-not-is_up c b =
     rw (sym c.is_up.ensures ∙ c.if-not-is_up.true) (c.refuse.ensures link_down_while_down refl b)
 
-pub put_ua-count-requires : goal.put_ua-count-requires
-put_ua-count-requires c =
-    omega (arith, reply_room_lem, c.requires)
-
 pub returns : goal.returns
 unfolding link_down
 returns c b =
     let l = line_of c.args.line in
     rw (sym c.is_up.ensures ∙ c.if-not-is_up.false)
-    (says_line none (ua c.args.head) (meter_with c.args.line b) refl c.put_ua-count.ensures _ c.with_link-next.ensures.view refl
-    (ends_one c.with_link-next.result c.args.client (linked false (peer c.args.client l)) l c.with_link-next.ensures.wiped))
+    (says_line none (ua c.args.head) (meter_with c.args.line b) refl c.put_ua.ensures _ c.with_link.ensures.view refl
+    (ends_one c.with_link.result c.args.client (linked false (peer c.args.client l)) l c.with_link.ensures.wiped))

@@ -1,7 +1,5 @@
 -- `p2::links::link_up` meets its contract.
 use mathlib.Core.Path.{refl, sym, ◌∙◌}
-use native.Mathlib.Omega.{arith}
-use Rattle.model.proofs.LimitFacts.{reply_room_lem}
 use Rattle.protocol.specs.Rulings.{none, link_up_with_information, p5_holds_v, ua}
 use Rattle.protocol.specs.Decide.{link_up}
 use Rattle.ending.proofs.Endings.{says_line, ends_one}
@@ -21,14 +19,10 @@ unfolding link_up
 returns-then-is_held_by_p5 c b =
     rw (c.if-information.false, sym c.is_held_by_p5.ensures ∙ c.if-is_held_by_p5.true) (c.refuse-then-is_held_by_p5.ensures p5_holds_v refl b)
 
-pub put_ua-count-requires : goal.put_ua-count-requires
-put_ua-count-requires c =
-    omega (arith, reply_room_lem, c.requires)
-
 pub returns : goal.returns
 unfolding link_up
 returns c b =
     let l = line_of c.args.line in
     rw (c.if-information.false, sym c.is_held_by_p5.ensures ∙ c.if-is_held_by_p5.false)
-    (says_line none (ua c.args.head) (meter_with c.args.line b) refl c.put_ua-count.ensures _ c.with_link-next.ensures.view refl
-    (ends_one c.with_link-next.result c.args.client (linked true (peer c.args.client l)) l c.with_link-next.ensures.wiped))
+    (says_line none (ua c.args.head) (meter_with c.args.line b) refl c.put_ua.ensures _ c.with_link.ensures.view refl
+    (ends_one c.with_link.result c.args.client (linked true (peer c.args.client l)) l c.with_link.ensures.wiped))

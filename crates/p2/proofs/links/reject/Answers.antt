@@ -1,15 +1,9 @@
 -- `p2::links::reject` meets its contract.
-use native.Mathlib.Omega.{arith}
-use Rattle.model.proofs.LimitFacts.{reply_room_lem}
 use Rattle.protocol.specs.Rulings.{frame, reject}
 use Rattle.ending.proofs.Endings.{says_kept}
 use Rattle.ending.specs.Inner.{meter_with}
 use Rattle.p2.proofs.links.reject.Goals as goal
 
-pub put_frmr-count-requires : goal.put_frmr-count-requires
-put_frmr-count-requires c =
-    omega (arith, reply_room_lem, c.requires)
-
 pub returns : goal.returns
 returns c b =
-    says_kept (frame c.args.test) (reject c.args.head c.args.test) (meter_with c.args.line b) c.number_of.ensures c.put_frmr-count.ensures
+    says_kept (frame c.args.test) (reject c.args.head c.args.test) (meter_with c.args.line b) c.number_of.ensures c.put_frmr.ensures

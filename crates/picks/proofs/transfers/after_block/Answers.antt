@@ -6,6 +6,6 @@ pub returns-then-last : goal.returns-then-last
 unfolding transfer_of
 returns-then-last c = rw (c.no_transfer.ensures, c.if-last.true)
 
-pub returns : goal.returns
+pub returns-else-last : goal.returns-else-last
 unfolding transfer_of
-returns c = rw (c.running.ensures, c.if-last.false)
+returns-else-last c = rw (c.running.ensures, c.if-last.false)

@@ -8,7 +8,7 @@ returns-in-Idle c = rw c.in-Idle.is c.no_transfer.ensures
 
 pub returns-in-Running : goal.returns-in-Running
 unfolding cleared_transfer
-returns-in-Running c = rw (c.in-Running.is, ← c.clear_picking-picking.ensures) c.running.ensures
+returns-in-Running c = rw (c.in-Running.is, ← c.clear_picking.ensures) c.running.ensures
 
 pub returns-in-Ended : goal.returns-in-Ended
 unfolding cleared_transfer

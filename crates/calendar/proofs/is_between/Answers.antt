@@ -1,9 +1,0 @@
--- `calendar::is_between` meets its contract.
-use borrow.Author.Tests.{lt-leb, le-leb}
-use Rattle.calendar.proofs.is_between.Goals as goal
-
-pub returns-then-n-low : goal.returns-then-n-low
-returns-then-n-low c = rw (lt-leb _ _ c.if-n-low.true)
-
-pub returns : goal.returns
-returns c = rw (le-leb _ _ c.if-n-low.false)

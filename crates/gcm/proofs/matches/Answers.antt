@@ -1,7 +1,0 @@
--- The tag, compared.
-use Rattle.gcm.specs.Gcm.{authentic}
-use Rattle.gcm.proofs.matches.Goals as goal
-
-pub returns : goal.returns
-unfolding authentic
-returns c = simp (c.is_same.ensures, c.tag_under-r.ensures)

@@ -1,6 +1,0 @@
--- The law of exclusive or, lane by lane.
-use Rattle.planes.proofs.LaneLaws.{lane_xor}
-use Rattle.planes.proofs.xor.Goals as goal
-
-pub returns : goal.returns
-returns c = λ j. lane_xor j _ _
