@@ -74,14 +74,27 @@ def items(text, word):
         yield match[1], parts(re.sub(r"#\[[^\]]*\]|\bpub\b", "", closed(text, match.end() - 1)))
 
 
+def closed_angles(text, start):
+    """Where the `<` at `start` is closed; the `>` of an arrow closes nothing."""
+    depth = 0
+    for match in re.compile(r"->|[<>]").finditer(text, start):
+        depth += {"<": 1, ">": -1}.get(match[0], 0)
+        if depth == 0:
+            return match.end()
+    return start
+
+
 class Function:
     def __init__(self, place, name, text, at):
         self.place, self.name = place, name
-        opened = text.index("(", at)
+        # bounds like F: Fn(..) -> .. have parentheses of their own
+        opened = text.index("(", closed_angles(text, at) if text[at] == "<" else at)
         held = closed(text, opened, "()")
-        self.params = [tuple(part.removeprefix("mut ").split(": ", 1)) for part in parts(held) if ": " in part]
+        self.params = [tuple(part.removeprefix("mut ").split(": ", 1)) for part in parts(held.replace("->", "")) if ": " in part]
         head = re.compile(r"\s*(?:->\s*([^\n{]*?))?\s*(?=\n|\{|;\n)").match(text, opened + len(held) + 2)
         self.result, self.facts, self.body, at = head[1] or "", [], "", head.end()
+        if bounds := re.compile(r"\s*where\b[^{;]*?(?=\b(?:requires|ensures|decreases|measure)\b|\{)").match(text, at):
+            at = bounds.end()
         while clause := re.compile(r"\s*(?:requires|ensures|decreases|measure)\*?(?: \w+)?\s*\{").match(text, at):
             inner = closed(text, clause.end() - 1)
             self.facts += [re.sub(r"^\((.*)\)$", r"\1", fact) for fact in parts(inner, "×")]

@@ -1,25 +1,23 @@
 -- From what a request comes to and the bytes that were written, to the model's Turn.
 use mathlib.Core.Path.{◌≡◌, refl, sym, ◌∙◌}
-use mathlib.Core.Bool.{Bool}
 use mathlib.Core.List.{List, [], ◌∷◌}
 use Prim.Native.Nat.{ℕ, ◌≤◌}
 use native.Mathlib.Omega.{arith}
 use lib.ListN.{length}
 use Rattle.wire.specs.Wrote.{Wrote}
-use Rattle.model.specs.declared.Client.{Client}
-use Rattle.model.specs.declared.Name.{Name}
 use Rattle.model.specs.Limits.{longest_sent, data_room}
 use Rattle.model.specs.State.{Transfer, Body}
 use Rattle.model.specs.Selecting.{Selection}
 use Rattle.model.specs.Objects.{Meaning, known, unknown, meaning, ask, turned, Parameter, get, action, Request, granted, begun, denied, attribute_read, method_invoked, block_answer, after_read, after_action, Turn, answered}
 use Rattle.model.proofs.LimitFacts.{data_room_lem, text_room_lem}
 use Rattle.model.proofs.BlockLaws.{answer_fits}
-use Rattle.cosem.specs.declared.Asked.{Asked}
 use Rattle.cosem.specs.declared.Wanted.{Wanted}
-use Rattle.cosem.specs.Requests.{name_in, requested, service_in}
+use Rattle.cosem.specs.Requests.{service_in}
 use Rattle.body.specs.declared.BodyState.{BodyState}
 use Rattle.body.specs.Change.{changed_by}
 use Rattle.body.specs.View.{body_of}
+use Rattle.objects.specs.declared.Query.{Query}
+use Rattle.objects.specs.Meanings.{request_as}
 use Rattle.answers.specs.declared.Turned.{Turned}
 use Rattle.answers.specs.Promise.{Turns}
 
@@ -32,13 +30,11 @@ after_denied (known o) b c = refl
 pub turns_by : {t u : Turn} {b : BodyState} {l m : List ℕ} {at : ℕ} {r : Turned} → t ≡ u → Turns u b l at m r → Turns t b l at m r
 turns_by e f = rw e f
 
--- what was asked, by what is wanted, the name and what it means
-module _ (c : Client) (selective blocks : Bool) (s : List ℕ) (asked : Asked) (b : Body) where
-  pub asked_is : {n : Name} {m : Meaning} {w : Wanted} → asked.wanted ≡ w → n ≡ name_in s → m ≡ meaning c n b.store.registers
-      → turned (ask (requested c selective blocks s asked)) b
-      ≡ answered (record { client = c; invoke = asked.invoke; selective = selective; blocks = blocks; class = asked.class; name = n; service = service_in s w }) b m (service_in s w)
-  unfolding turned requested
-  asked_is e f g = rw (← e, g, f)
+-- what was asked, by what is wanted and what the name means
+pub asked_is : (q : Query) (s : List ℕ) (b : Body) {m : Meaning} {v w : Wanted} → v ≡ w → m ≡ meaning q.client q.name b.store.registers
+    → turned (ask (request_as q (service_in s v))) b ≡ answered (request_as q (service_in s w)) b m (service_in s w)
+unfolding turned
+asked_is q s b e f = rw (← e, f)
 
 module _ (q : Request) (x : BodyState) (w : Meaning) {l m : List ℕ} {at : ℕ} (r : Turned) where
   -- a read, by what it comes to: the body becomes the one after it

@@ -16,7 +16,7 @@ use Rattle.model.specs.Soundness.{rows_allow}
 use Rattle.model.proofs.LimitFacts.{block_room_lem}
 use Rattle.model.proofs.ListLaws.{both, by_test}
 use Rattle.model.proofs.TransferLaws.{going}
-use Rattle.store.specs.declared.Rows.{Rows}
+use Rattle.store.specs.Held.{Rows}
 use Rattle.store.specs.Lists.{entries_of}
 use Rattle.store.proofs.Blank.{blank_row}
 use Rattle.picks.specs.Marks.{marked, mark_count}

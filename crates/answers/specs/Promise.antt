@@ -4,6 +4,8 @@ use Rattle.wire.specs.Wrote.{Wrote}
 use Rattle.model.specs.Limits.{longest_sent, text_room}
 use Rattle.model.specs.declared.Client.{Client}
 use Rattle.model.specs.Objects.{Turn, Inquiry, ask, go_on}
+use Rattle.cosem.specs.declared.Reading.{Reading}
+use Rattle.cosem.specs.declared.Reading.TheVariants.{Asks, GoesOn}
 use Rattle.cosem.specs.Requests.{requested}
 use Rattle.body.specs.declared.BodyState.{BodyState}
 use Rattle.body.specs.Change.{changed_by}
@@ -11,13 +13,11 @@ use Rattle.body.specs.View.{body_of}
 use Rattle.answers.specs.declared.Turned.{Turned}
 use Rattle.answers.specs.declared.transfer.BlockRefusal.{BlockRefusal}
 use Rattle.answers.specs.declared.transfer.BlockRefusal.TheVariants.{Ended, NoneRunning, WrongNumber}
-use Rattle.answers.specs.declared.Inquiry.{Inquiry as Asking}
-use Rattle.answers.specs.declared.Inquiry.TheVariants.{Ask, GoOn}
 
--- what a client asked with this APDU, selective access and block transfer being agreed or not
-abbrev pub inquiry_in : Client → (selective blocks : Bool) → List ℕ → Asking → Inquiry
-inquiry_in c selective blocks s (Ask q) = ask (requested c selective blocks s q)
-inquiry_in c selective blocks s (GoOn invoke number) = go_on invoke number
+-- what a client asked with this APDU, as it was read, selective access and block transfer being agreed or not
+abbrev pub inquiry_in : Client → (selective blocks : Bool) → List ℕ → Reading → Inquiry
+inquiry_in c selective blocks s (Asks q) = ask (requested c selective blocks s q)
+inquiry_in c selective blocks s (GoesOn invoke number) = go_on invoke number
 
 -- the result code by which a request for a block is refused: "ended meanwhile, code 15; else none running, code 16; wrong block number,
 -- code 19"

@@ -6,7 +6,7 @@ ghost use Rattle.std.specs.Prelude.{◌≡◌, true, [], ◌∷◌, ◌+◌, ◌
 ghost use Rattle.wire.specs.Wrote.{Wrote};
 ghost use Rattle.model.specs.Limits.{longest_sent, text_room};
 ghost use Rattle.model.specs.Objects.{action, answered, ask, get, turned};
-ghost use Rattle.cosem.specs.Requests.{requested};
+ghost use Rattle.cosem.specs.Requests.{service_in};
 ghost use Rattle.body.specs.View.{body_of, body_sound};
 ghost use Rattle.objects.specs.Meanings.{found_as, request_as};
 ghost use Rattle.objects.specs.Picks.{parameter_in, selection_in};
@@ -15,20 +15,13 @@ ghost use Rattle.answers.specs.Promise.{Turns, inquiry_in};
 use crate::granted::put_data;
 use crate::transfer::{after_read, answer_next, put_rows_block};
 use body::{BodyState, Change};
-use cosem::{Asked, Wanted};
+use cosem::{Reading, Wanted};
 use model::Client;
 use objects::{Query, Selector, Served};
 use results::Outcome;
 
 mod granted;
 mod transfer;
-
-// What an opened APDU asks of the body: a request; or the next block of a long answer, after the block of this number.
-#[derive(Clone, Copy)]
-pub enum Inquiry {
-    Ask(Asked),
-    GoOn { invoke: u8, number: u32 },
-}
 
 // The number of the refusal, or 0, as a call from C hands it out; the place after the answer, and what becomes of the body, of which a
 // refused request has both, too.
@@ -39,53 +32,51 @@ pub struct Turned {
     pub change: Change,
 }
 
-// The answer to what a client asked with this APDU; selective access and block transfer were agreed or not.
+// The answer to what a client asked with this APDU, as it was read; selective access and block transfer were agreed or not.
+// A sound body stays a clause: `BodyState` holds unsound ones (UnsoundAnswers3 of meter); a type for sound ones would be opened at each field.
 pub fn answer(
     body: BodyState,
     client: Client,
     selective: bool,
     blocks: bool,
     apdu: &[u8],
-    inquiry: Inquiry,
+    reading: Reading,
     out: &mut [u8],
     at: usize,
 ) -> Turned
     requires { (body_sound (body_of body) ≡ true) × (at + text_room longest_sent ≤ length out.old) }
-    ensures { Turns (turned (inquiry_in client selective blocks apdu.now inquiry) (body_of body)) body out.old at out.new result }
+    ensures { Turns (turned (inquiry_in client selective blocks apdu.now reading) (body_of body)) body out.old at out.new result }
 {
-    match inquiry {
-        Inquiry::Ask(asked) => {
-            answer_request(body, client, selective, blocks, apdu, asked, out, at)
+    match reading {
+        Reading::Asks(asked) => {
+            let query = Query {
+                client,
+                invoke: asked.invoke,
+                selective,
+                blocks,
+                class: asked.class,
+                name: cosem::name_in(apdu),
+            };
+            answer_request(body, query, asked.wanted, apdu, out, at)
         }
-        Inquiry::GoOn { invoke, number } => answer_next(body, invoke, number, out, at),
+        Reading::GoesOn { invoke, number } => answer_next(body, invoke, number, out, at),
     }
 }
 
-// The answer to a request.
+// The answer to a request that wants this.
 fn answer_request(
     body: BodyState,
-    client: Client,
-    selective: bool,
-    blocks: bool,
+    query: Query,
+    wanted: Wanted,
     apdu: &[u8],
-    asked: Asked,
     out: &mut [u8],
     at: usize,
 ) -> Turned
     requires { (body_sound (body_of body) ≡ true) × (at + text_room longest_sent ≤ length out.old) }
-    ensures { Turns (turned (ask (requested client selective blocks apdu.now asked)) (body_of body)) body out.old at out.new result }
+    ensures { Turns (turned (ask (request_as query (service_in apdu.now wanted))) (body_of body)) body out.old at out.new result }
 {
-    let name = cosem::name_in(apdu);
-    let query = Query {
-        client,
-        invoke: asked.invoke,
-        selective,
-        blocks,
-        class: asked.class,
-        name,
-    };
-    let found = objects::find(client, name, body.registers);
-    match asked.wanted {
+    let found = objects::find(query.client, query.name, body.registers);
+    match wanted {
         Wanted::Read { attribute } => {
             answer_get(body, found, query, attribute, None, apdu, out, at)
         }

@@ -20,7 +20,7 @@ use model::{CipherClient, Client};
 use picks::{Picking, Progress, Transfer};
 use store::Rows;
 
-// The most that the data of rows take: fifteen rows of sixteen columns.
+// The most that the data of rows take: fifteen rows of sixteen columns. They are written into an array, as there is no heap.
 const LONGEST_DATA: usize = 1487;
 
 // Why a request for a block is refused. The numbers are the result codes that go out.

@@ -1,1 +1,2 @@
+mod AllowedLaws
 pub mod ServedLaws

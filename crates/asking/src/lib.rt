@@ -1,7 +1,7 @@
 // Requests for the body: V's plain GET, and GET and ACTION of a client that ciphers in their envelopes; and its requests for a block.
 #![tactic(auto)]
 
-ghost use Rattle.std.specs.Prelude.{List, ℕ, ◌+◌, ◌≤◌, length};
+ghost use Rattle.std.specs.Prelude.{◌≡◌, List, ℕ, ◌+◌, ◌≤◌, length};
 ghost use Rattle.model.specs.Limits.{longest_sent, text_room};
 ghost use Rattle.model.specs.Objects.{turned};
 ghost use Rattle.body.specs.View.{body_of};
@@ -14,13 +14,15 @@ ghost use Rattle.answers.specs.Promise.{Turns, inquiry_in};
 ghost use Rattle.protocol.specs.Clients.{blocks_in, selective_in};
 ghost use Rattle.protocol.specs.Rulings.{asks};
 ghost use Rattle.protocol.specs.Decide.{accepted, advanced, asked, asked_inside, of_ciphering, request_enclosed, wrap};
+ghost use Rattle.asking.specs.Allowed.{may_ask};
 ghost use Rattle.ending.specs.Inner.{Hears, HearsUnder, Ready};
 
-use answers::{Inquiry, Turned};
+use answers::Turned;
 use cosem::{Exception, Reading, ServiceKind};
 use ending::{Heard, Opened, alone, drop_association, except, kept, misread};
 use envelope::{LONGEST_APDU, Opening, Unadmitted};
 use hdlc::Head;
+use line::LineState;
 use meter::Meter;
 use model::{CipherClient, Client};
 use protocol::Secrets;
@@ -40,17 +42,20 @@ pub fn ask_plain(
 {
     let line = meter.line;
     match cosem::read_service(kind, apdu) {
-        Some(Reading::Asks(request)) => {
-            answer_plain(meter, client, head, apdu, Inquiry::Ask(request), out)
+        Some(reading) if may_ask(line, client, reading) => {
+            answer_plain(meter, client, head, apdu, reading, out)
         }
-        Some(Reading::GoesOn { invoke, number }) => {
-            if !association::are_blocks_agreed(line, client) {
-                return alone(except(line, head, Exception::ServiceUnknown, out));
-            }
-            let inquiry = Inquiry::GoOn { invoke, number };
-            answer_plain(meter, client, head, apdu, inquiry, out)
-        }
-        None => alone(except(line, head, Exception::ServiceUnknown, out)),
+        _ => alone(except(line, head, Exception::ServiceUnknown, out)),
+    }
+}
+
+// Whether an association lets the client ask this: requests for a block have to be agreed.
+fn may_ask(line: LineState, client: Client, reading: Reading) -> bool
+    ensures { result ≡ may_ask (line_of line) client reading }
+{
+    match reading {
+        Reading::Asks(_) => true,
+        Reading::GoesOn { .. } => association::are_blocks_agreed(line, client),
     }
 }
 
@@ -60,13 +65,13 @@ fn answer_plain(
     client: Client,
     head: Head,
     apdu: &[u8],
-    inquiry: Inquiry,
+    reading: Reading,
     out: &mut [u8],
 ) -> Heard
     requires { Ready meter out.old }
-    ensures { (ak : List ℕ) → Hears (asks (inquiry_in client (selective_in client (line_of meter.line)) (blocks_in client (line_of meter.line)) apdu.now inquiry) (wrap ak Verification head 0xC0) (line_of meter.line)) meter out.old out.new result }
+    ensures { (ak : List ℕ) → Hears (asks (inquiry_in client (selective_in client (line_of meter.line)) (blocks_in client (line_of meter.line)) apdu.now reading) (wrap ak Verification head 0xC0) (line_of meter.line)) meter out.old out.new result }
 {
-    let answer = turn(meter, client, apdu, inquiry, out, APDU_AT);
+    let answer = turn(meter, client, apdu, reading, out, APDU_AT);
     Heard {
         refusal: answer.refusal,
         count: replies::send_plain(out, head, answer.next - APDU_AT),
@@ -80,18 +85,18 @@ fn turn(
     meter: Meter,
     client: Client,
     text: &[u8],
-    inquiry: Inquiry,
+    reading: Reading,
     out: &mut [u8],
     at: usize,
 ) -> Turned
     requires ready { Ready meter out.old }
     requires room { at + text_room longest_sent ≤ length out.old }
-    ensures { Turns (turned (inquiry_in client (selective_in client (line_of meter.line)) (blocks_in client (line_of meter.line)) text.now inquiry) (body_of meter.body)) meter.body out.old at out.new result }
+    ensures { Turns (turned (inquiry_in client (selective_in client (line_of meter.line)) (blocks_in client (line_of meter.line)) text.now reading) (body_of meter.body)) meter.body out.old at out.new result }
 {
     let selective = association::is_selective(meter.line, client);
     let blocks = association::are_blocks_agreed(meter.line, client);
     answers::answer(
-        meter.body, client, selective, blocks, text, inquiry, out, at,
+        meter.body, client, selective, blocks, text, reading, out, at,
     )
 }
 
@@ -163,17 +168,10 @@ fn ask_inside(meter: Meter, opened: Opened, kind: ServiceKind, text: &[u8], out:
         ..
     } = opened;
     match cosem::read_service(kind, text) {
-        Some(Reading::Asks(request)) => {
-            answer_enclosed(meter, opened, kind, text, Inquiry::Ask(request), out)
+        Some(reading) if may_ask(line, Client::Ciphering(client), reading) => {
+            answer_enclosed(meter, opened, kind, text, reading, out)
         }
-        Some(Reading::GoesOn { invoke, number }) => {
-            if !association::are_blocks_agreed(line, Client::Ciphering(client)) {
-                return alone(misread(line, client, head, counter, out));
-            }
-            let inquiry = Inquiry::GoOn { invoke, number };
-            answer_enclosed(meter, opened, kind, text, inquiry, out)
-        }
-        None => alone(misread(line, client, head, counter, out)),
+        _ => alone(misread(line, client, head, counter, out)),
     }
 }
 
@@ -183,18 +181,18 @@ fn answer_enclosed(
     opened: Opened,
     kind: ServiceKind,
     text: &[u8],
-    inquiry: Inquiry,
+    reading: Reading,
     out: &mut [u8],
 ) -> Heard
     requires { Ready meter out.old }
-    ensures { HearsUnder opened.client opened.keys (λ a. asks (inquiry_in (Ciphering opened.client) (selective_in (Ciphering opened.client) (line_of meter.line)) (blocks_in (Ciphering opened.client) (line_of meter.line)) text.now inquiry) (wrap a.ak (Ciphering opened.client) opened.head (dedicated_tag kind)) (advanced opened.client (accepted opened.client opened.counter (line_of meter.line)))) meter out.old out.new result }
+    ensures { HearsUnder opened.client opened.keys (λ a. asks (inquiry_in (Ciphering opened.client) (selective_in (Ciphering opened.client) (line_of meter.line)) (blocks_in (Ciphering opened.client) (line_of meter.line)) text.now reading) (wrap a.ak (Ciphering opened.client) opened.head (dedicated_tag kind)) (advanced opened.client (accepted opened.client opened.counter (line_of meter.line)))) meter out.old out.new result }
 {
     let line = meter.line;
     let asking = Client::Ciphering(opened.client);
     let held = line::counters_of(line, opened.client);
     let accepted = counters::accept(held, opened.counter);
     let taken = counters::take(accepted);
-    let answer = turn(meter, asking, text, inquiry, out, TEXT_AT);
+    let answer = turn(meter, asking, text, reading, out, TEXT_AT);
     let count = replies::send_enclosed(
         out,
         opened.head,

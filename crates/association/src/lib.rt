@@ -95,7 +95,7 @@ fn is_agreed(agreed: [u8; 3], kind: ServiceKind) -> bool
     }
 }
 
-// Whether selective access is agreed.
+// Whether selective access is agreed. This and the next have names of their own, each a line over `is_within`: their clauses do, too.
 pub fn is_selective(line: LineState, client: Client) -> bool
     ensures { result ≡ selective_in client (line_of line) }
 {

@@ -1,7 +1,7 @@
 -- What a request makes of the body of the code.
 use Rattle.std.specs.Prelude.{◌≡◌, [], ℕ}
 use Rattle.model.specs.State.{Body}
-use Rattle.store.specs.declared.Rows.{Rows}
+use Rattle.store.specs.Held.{Rows}
 use Rattle.store.specs.Canonical.{rows_with}
 use Rattle.picks.specs.declared.Transfer.{Transfer}
 use Rattle.picks.specs.Canonical.{broken_transfer}

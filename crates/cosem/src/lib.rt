@@ -29,6 +29,7 @@ pub enum Tag {
     PlainRequest(ServiceKind),
     GlobalAction,
     DedicatedRequest(ServiceKind),
+    // a row of the tables of what may be sent, as the others are: an Option would wrap each of their arms
     Unknown,
 }
 

@@ -1,6 +1,6 @@
 // GET and ACTION requests, and those for a block: each reader says for every slice what it asks; none is what is malformed. Every
 // selector and every parameter is judged by the value reader of the crate axdr. specs/Requests has the places of the fields.
-ghost use Rattle.std.specs.Prelude.{◌≡◌, ◌<◌, Some};
+ghost use Rattle.std.specs.Prelude.{◌≡◌, Some};
 ghost use Rattle.cosem.specs.Requests.{asked_in, asking_with, byte, last_value, name_in, optional_part, read_action, read_get, read_gets, read_next, read_service};
 
 use crate::{Asked, Reading, ServiceKind, Wanted};
@@ -117,7 +117,7 @@ fn asked(s: &[u8], w: Wanted) -> Asked
 {
     Asked {
         invoke: byte_of(s, 2),
-        class: wide(byte_of(s, 3)) * 256 + wide(byte_of(s, 4)),
+        class: u16::from(byte_of(s, 3)) * 256 + u16::from(byte_of(s, 4)),
         wanted: w,
     }
 }
@@ -138,10 +138,4 @@ fn byte_of(s: &[u8], at: usize) -> u8
     ensures { result ≡ byte s.now at }
 {
     if at < s.len() { s[at] } else { 0 }
-}
-
-fn wide(b: u8) -> u16
-    ensures { (result ≡ b) × (result < 256) }
-{
-    b as u16
 }

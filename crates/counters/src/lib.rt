@@ -27,12 +27,24 @@ pub fn take(mut pair: Counters) -> Taken
 }
 
 // The pair is advanced where it stands, and the number to use comes back.
-#[tactic(auto, unfolding(crate::specs::Advance::taken, crate::specs::Advance::next_counter))]
 pub fn advance(c: &mut Counters) -> u32
     ensures { (result ≡ (taken c.old).number) × (c.new ≡ (taken c.old).counters) }
 {
-    c.sent = c.sent.wrapping_add(1);
-    c.sent
+    let next = advanced(*c);
+    *c = next.counters;
+    next.number
+}
+
+// The same by value: what `advance` is made of.
+#[tactic(auto, unfolding(crate::specs::Advance::taken, crate::specs::Advance::next_counter))]
+fn advanced(c: Counters) -> Taken
+    ensures { result ≡ taken c }
+{
+    let number = c.sent.wrapping_add(1);
+    Taken {
+        counters: Counters { sent: number, ..c },
+        number,
+    }
 }
 
 // The step from the last accepted to a counter, modulo 2^32.

@@ -50,6 +50,7 @@ fn put_octets(out: &mut [u8], at: usize, s: &[u8]) -> usize
     wire_write::put_all(out, b, s)
 }
 
+// The two unsigned numbers. One function over the width would take the tag beside it, and a caller could pair them wrongly.
 pub fn put_unsigned16(out: &mut [u8], at: usize, n: u16) -> usize
     requires { at + 3 ≤ length out.old }
     ensures { Wrote out.old at out.new result (unsigned16 n) }

@@ -16,7 +16,7 @@ use Rattle.model.specs.Periods.{permitted_period}
 use Rattle.model.specs.State.{Entry}
 use Rattle.model.specs.Soundness.{accepted_registers, accepted_columns}
 use Rattle.model.specs.Honesty.{blank_entry}
-use Rattle.store.specs.declared.Rows.{Rows}
+use Rattle.store.specs.Held.{Rows}
 use Rattle.store.specs.Lists.{registers_of, columns_of, entry_of, entries_of, held}
 use Rattle.store.proofs.StoreLaws.{rows_counted, columns_counted, few_columns_lem}
 use Rattle.picks.specs.Sizes.{Even}

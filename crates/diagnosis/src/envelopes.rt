@@ -53,7 +53,8 @@ pub fn find_in_enclosed(
     )
 }
 
-// An envelope with this tag, opened into the room.
+// An envelope with this tag, opened into the room. Line, client and keys stay apart, here and below: they are handed on one by one, to
+// functions of the frame call that take them so.
 fn admit(
     line: LineState,
     client: CipherClient,

@@ -27,7 +27,8 @@ use meter::Meter;
 use model::Client;
 use ready::Ready;
 
-// What is told of a call: the number that it answers, the test that it fails first or none, and where the frame fails it.
+// What is told of a call: the number that it answers, as a call does, the test that it fails first or none, and where the frame fails
+// it.
 #[derive(Clone, Copy)]
 pub struct Explained {
     pub refusal: u8,

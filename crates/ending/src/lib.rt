@@ -20,8 +20,8 @@ use material::ReadyKeys;
 use meter::Meter;
 use model::{CipherClient, Client};
 
-// What a frame call hands back: the number of its refusal, or 0, how many bytes of the reply room go out, and the meter. The C
-// interface has refusals as numbers, and each stands in one function: names for them would be no plainer.
+// What a frame call hands back: the number of its refusal, or 0, how many bytes of the reply room go out, and the meter. A number here
+// and in the two structs below, as in what the calls promise: `Promised` and `Follows` say which number of document 01 a ruling has.
 #[derive(Clone, Copy)]
 pub struct Received {
     pub refusal: u8,

@@ -1,14 +1,14 @@
 -- The layout of a meter: each struct's fields in their order, arrays in full whatever a count says. `Places` is to be read before
 -- it: it has the place of each field, and it is proved of this layout. A definition here has three parts: the fields of a struct as
 -- nested pairs, the struct with such fields, and, in the same order, the part that each field is written as.
+use Rattle.std.specs.Prelude.{ℕ}
 use Rattle.model.specs.declared.Name.{Name}
 use Rattle.model.specs.declared.Clock.{Clock}
 use Rattle.model.specs.declared.Register.{Register}
 use Rattle.model.specs.declared.Counters.{Counters}
-use Rattle.store.specs.declared.Registers.{Registers}
-use Rattle.store.specs.declared.Columns.{Columns}
+use Rattle.store.specs.declared.Held.{Held}
+use Rattle.store.specs.Held.{Registers, Columns, Rows}
 use Rattle.store.specs.declared.Row.{Row}
-use Rattle.store.specs.declared.Rows.{Rows}
 use Rattle.picks.specs.declared.Picking.{Picking}
 use Rattle.picks.specs.declared.Transfer.{Transfer}
 use Rattle.line.specs.declared.Party.{Party}
@@ -50,6 +50,13 @@ line_part =
 
 -- The body.
 
+-- count, items
+abbrev pub held_part : {A : Type 0} → (n : ℕ) → Codec A → Codec (Held A n)
+held_part n part =
+    fields (λ r. (r.count, r.items))
+    (λ (count, items). record { count = count; items = items })
+    (number 8 & many n part)
+
 -- bytes
 unfoldable pub name_part : Codec Name
 name_part = fields (λ n. n.bytes) (λ bytes. record { bytes = bytes }) (block 6)
@@ -65,19 +72,11 @@ register_part =
     (λ (name, (readable, (scaler, (unit, value)))). record { name = name; readable = readable; scaler = scaler; unit = unit; value = value })
     (name_part & flag & byte & byte & number 4)
 
--- count, items
 unfoldable pub registers_part : Codec Registers
-registers_part =
-    fields (λ r. (r.count, r.items))
-    (λ (count, items). record { count = count; items = items })
-    (number 8 & many 16 register_part)
+registers_part = held_part 16 register_part
 
--- count, items
 unfoldable pub columns_part : Codec Columns
-columns_part =
-    fields (λ r. (r.count, r.items))
-    (λ (count, items). record { count = count; items = items })
-    (number 8 & many 16 name_part)
+columns_part = held_part 16 name_part
 
 -- number, clock, count, cells
 unfoldable pub row_part : Codec Row
@@ -86,12 +85,8 @@ row_part =
     (λ (record_number, (clock, (count, cells))). record { number = record_number; clock = clock; count = count; cells = cells })
     (number 2 & clock_part & number 8 & many 16 (number 4))
 
--- count, items
 unfoldable pub rows_part : Codec Rows
-rows_part =
-    fields (λ r. (r.count, r.items))
-    (λ (count, items). record { count = count; items = items })
-    (number 8 & many 15 row_part)
+rows_part = held_part 15 row_part
 
 -- kind, after, until, from, to
 unfoldable pub picking_part : Codec Picking

@@ -2,9 +2,11 @@
 // array has stand one after the other.
 ghost use Rattle.std.specs.Prelude.{◌≡◌, ℕ, ◌+◌, ◌*◌, ◌<◌, ◌≤◌, length};
 ghost use Rattle.image.specs.Codec.{Codec, Got, many};
+ghost use Rattle.image.specs.Layout.{held_part};
 ghost use Rattle.image.specs.Lists.{Firsts};
 
 use std::array;
+use store::Held;
 
 pub trait Part: Copy {
     ghost part: { Codec Self };
@@ -32,6 +34,16 @@ pub fn each_at<T: Part, const N: usize>(s: &[u8], at: usize) -> [T; N]
             ensures { Got T.part s.entry.now (at + i * T.SIZE) result }
         { T::read(s, at + i * T::SIZE) },
     )
+}
+
+// A count, and then as many parts as there are places.
+pub fn held_at<T: Part, const N: usize>(s: &[u8], at: usize) -> Held<T, N>
+    requires { at + 8 + N * T.SIZE ≤ length s.now }
+    ensures { Got (held_part N T.part) s.now at result }
+{
+    let count = usize::read(s, at);
+    let items = each_at(s, at + 8);
+    Held { count, items }
 }
 
 // An array that begins with so many parts and is blank behind them.

@@ -4,7 +4,7 @@ ghost use Rattle.image.specs.Codec.{byte, flag, Got, number, phase, picking_kind
 ghost use Rattle.image.specs.Layout.{body_part, cipher_party_part, clock_part, columns_part, counters_part, line_part, meter_part, name_part, party_part, picking_part, register_part, registers_part, row_part, rows_part, transfer_part};
 ghost use Rattle.image.specs.Sizes.{sizes};
 
-use crate::part::{Part, each_at};
+use crate::part::{Part, each_at, held_at};
 use body::BodyState;
 use line::{CipherParty, LineState, Party, Phase};
 use meter::Meter;
@@ -199,9 +199,7 @@ impl Part for Registers {
     const SIZE: usize = 216;
 
     fn read(s: &[u8], at: usize) -> Registers {
-        let count = usize::read(s, at);
-        let items = each_at(s, at + 8);
-        Registers { count, items }
+        held_at(s, at)
     }
 
     ghost sized = { sizes.registers_size };
@@ -243,9 +241,7 @@ impl Part for Columns {
     const SIZE: usize = 104;
 
     fn read(s: &[u8], at: usize) -> Columns {
-        let count = usize::read(s, at);
-        let items = each_at(s, at + 8);
-        Columns { count, items }
+        held_at(s, at)
     }
 
     ghost sized = { sizes.columns_size };
@@ -259,9 +255,7 @@ impl Part for Rows {
     const SIZE: usize = 1298;
 
     fn read(s: &[u8], at: usize) -> Rows {
-        let count = usize::read(s, at);
-        let items = each_at(s, at + 8);
-        Rows { count, items }
+        held_at(s, at)
     }
 
     ghost sized = { sizes.rows_size };

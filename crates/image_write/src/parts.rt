@@ -2,6 +2,7 @@
 ghost use Rattle.std.specs.Prelude.{◌+◌, ◌*◌, ◌≤◌, length};
 ghost use Rattle.wire.specs.Wrote.{WroteArray};
 ghost use Rattle.image.specs.Codec.{many};
+ghost use Rattle.image.specs.Layout.{held_part};
 ghost use Rattle.image_write.specs.Writing.{Put};
 
 use body::BodyState;
@@ -10,7 +11,7 @@ use line::{CipherParty, LineState, Party, Phase};
 use meter::Meter;
 use model::{Clock, Counters, Name, Register};
 use picks::{Picking, PickingKind, Progress, Transfer};
-use store::{Columns, Registers, Row, Rows};
+use store::{Columns, Held, Registers, Row, Rows};
 
 pub trait Written: Part {
     // The place after the part is given.
@@ -40,7 +41,7 @@ impl Written for Party {
         let a = wire_write::put_array(out, at, &self.title);
         let b = self.up.put(out, a);
         let c = self.phase.put(out, b);
-        put_3(out, c, &self.agreed)
+        wire_write::put_array(out, c, &self.agreed)
     }
 }
 
@@ -88,8 +89,7 @@ impl Written for Clock {
 
 impl Written for Registers {
     fn put(&self, out: &mut [u8], at: usize) -> usize {
-        let a = self.count.put(out, at);
-        put_each(out, a, &self.items)
+        put_held(out, at, self)
     }
 }
 
@@ -105,15 +105,13 @@ impl Written for Register {
 
 impl Written for Columns {
     fn put(&self, out: &mut [u8], at: usize) -> usize {
-        let a = self.count.put(out, at);
-        put_each(out, a, &self.items)
+        put_held(out, at, self)
     }
 }
 
 impl Written for Rows {
     fn put(&self, out: &mut [u8], at: usize) -> usize {
-        let a = self.count.put(out, at);
-        put_each(out, a, &self.items)
+        put_held(out, at, self)
     }
 }
 
@@ -193,13 +191,6 @@ impl Written for usize {
     }
 }
 
-fn put_3(out: &mut [u8], at: usize, s: &[u8; 3]) -> usize
-    requires { at + 3 ≤ length out.old }
-    ensures { WroteArray 3 out.old at out.new result s.now }
-{
-    wire_write::put_all(out, at, s)
-}
-
 // The parts of an array, one after the other.
 fn put_each<T: Written, const N: usize>(out: &mut [u8], at: usize, items: &[T; N]) -> usize
     requires { at + N * T.SIZE ≤ length out.old }
@@ -210,4 +201,13 @@ fn put_each<T: Written, const N: usize>(out: &mut [u8], at: usize, items: &[T; N
         next = item.put(out, next);
     }
     next
+}
+
+// A count, and then each of the places.
+fn put_held<T: Written, const N: usize>(out: &mut [u8], at: usize, held: &Held<T, N>) -> usize
+    requires { at + 8 + N * T.SIZE ≤ length out.old }
+    ensures { Put (held_part N T.part) held.now out.old at out.new result }
+{
+    let next = held.count.put(out, at);
+    put_each(out, next, &held.items)
 }

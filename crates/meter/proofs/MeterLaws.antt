@@ -15,9 +15,7 @@ use Rattle.model.specs.State.{broken}
 use Rattle.model.specs.Soundness.{passes, accepted_registers, accepted_columns, allowed, rows_allow, sound, line_sound}
 use Rattle.model.specs.Calls.{OwnerCall, owner, give_registers, set_value, set_columns, set_period, tick, set_p5, power_up, refused, done, Protocol, ticked, powered_line, act, step}
 use Rattle.model.proofs.ListLaws.{both}
-use Rattle.store.specs.declared.Registers.{Registers}
-use Rattle.store.specs.declared.Columns.{Columns}
-use Rattle.store.specs.declared.Rows.{Rows}
+use Rattle.store.specs.Held.{Registers, Columns, Rows}
 use Rattle.store.specs.Lists.{registers_of, columns_of, entries_of}
 use Rattle.store.specs.Promises.{Assigns}
 use Rattle.picks.specs.declared.Transfer.{Transfer}

@@ -15,10 +15,8 @@ use Rattle.model.specs.declared.SoundnessTest.{SoundnessTest}
 use Rattle.model.specs.declared.SoundnessTest.TheVariants.{RegisterList, ColumnList, PeriodPermitted, ClockValid, RowClocksValid, RowCount, RowCells, AssociationKind, AssociationOnLink, AgreedServices, TransferPossible}
 use Rattle.model.specs.Soundness.{passes, soundness_tests, sound}
 use Rattle.model.specs.Calls.{OwnerCall}
-use Rattle.store.specs.declared.Registers.{Registers}
-use Rattle.store.specs.declared.Columns.{Columns}
+use Rattle.store.specs.Held.{Registers, Columns, Rows}
 use Rattle.store.specs.declared.Row.{Row}
-use Rattle.store.specs.declared.Rows.{Rows}
 use Rattle.store.specs.Lists.{entry_of}
 use Rattle.picks.specs.declared.Transfer.{Transfer}
 use Rattle.picks.specs.Canonical.{whole_picking, dated_picking, numbered_picking, no_transfer, running_transfer, ended_transfer}

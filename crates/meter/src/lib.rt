@@ -58,7 +58,8 @@ impl Meter {
         meter.cleared()
     }
 
-    // Registers are given anew; columns and rows are emptied, and a transfer that runs is ended. Refusals 3 and 16.
+    // Registers are given anew; columns and rows are emptied, and a transfer that runs is ended. Refusals 3 and 16. A count above sixteen
+    // can be given, and is refused: so the array and its count stand apart, here and of columns.
     pub fn give_registers(mut self, registers: [Register; 16], count: usize) -> Changed
         ensures { Owned (OwnerCall.give_registers (held blank_register count registers)) self result }
     {

@@ -4,7 +4,9 @@ use mathlib.Core.Bool.{Bool, true, false, cond}
 use mathlib.Core.List.{List, [], ◌∷◌, map}
 use Prim.Native.Nat.{ℕ, zero, suc, ◌+◌, ◌≤◌, ◌<◌}
 use native.Mathlib.Omega.{arith}
-use lib.ListN.{length, get_or}
+use lib.ListN.{length, take, get_or}
+use lib.Seq.{get_or-take}
+use lib.Dec.{lit<}
 use Rattle.wire.specs.Reading.{same_bytes}
 use Rattle.wire.proofs.ReadingLaws.{by_order}
 use Rattle.model.specs.declared.Name.{Name}
@@ -79,8 +81,8 @@ none_of_six (suc (suc (suc (suc (suc (suc zero)))))) n₁ n₂ n₃ n₄ n₅ n�
 none_of_six (suc (suc (suc (suc (suc (suc (suc i))))))) n₁ n₂ n₃ n₄ n₅ n₆ h k = over_six i k
 
 -- the fifth own name is the device name's
-pub device_is : (l : List Name) (n : Name) → l ≡ own_names → same_name (get_or l 4 blank_name) n ≡ same_name device_object.name n
-device_is l n e = ap (λ (ns : List Name). same_name (get_or ns 4 blank_name) n) e
+pub device_is : (l : List Name) (n : Name) → take 7 l ≡ own_names → same_name (get_or l 4 blank_name) n ≡ same_name device_object.name n
+device_is l n e = ap (λ (m : Name). same_name m n) (sym (get_or-take 7 l 4 blank_name (lit< tt)) ∙ ap (λ (ns : List Name). get_or ns 4 blank_name) e)
 
 -- Registers.
 

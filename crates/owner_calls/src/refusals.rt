@@ -39,7 +39,7 @@ pub enum Refusal {
     // the meter in it is not sound
     NotSound,
     Argument(ArgumentFault),
-    // the meter refuses the call, by this number of document 01
+    // the meter refuses the call, by this number of document 01, as it stands beside a meter (`Changed`)
     Meter(u8),
 }
 

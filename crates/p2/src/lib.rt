@@ -47,7 +47,8 @@ pub fn receive(
     settle(heard, meter)
 }
 
-// What is refused of what is lent, whatever the meter and the frame are: 1, 2, or 0 where it is taken.
+// What is refused of what is lent, whatever the meter and the frame are: 1, 2, or 0 where it is taken. A number, as in `Received`: the C
+// interface has refusals as numbers.
 #[tactic(auto, using(model::proofs::LimitFacts::reply_room_lem), unfolding(model::specs::Calls::lent_refusal))]
 pub fn lent_refusal(room: usize, guk: &[u8], ak: &[u8], challenge: &[u8]) -> u8
     ensures { result ≡ lent_refusal (lent room guk.now ak.now challenge.now []) }

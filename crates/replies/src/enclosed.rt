@@ -65,7 +65,7 @@ pub fn send_proof(
     close_and_send(out, head, keys, title, 0xCF, second, PROVED_SIZE)
 }
 
-// The answer to an ACTION that is denied with this code.
+// The answer to an ACTION that is denied with this code. Any code: the promise is of every number.
 pub fn send_denial(
     out: &mut [u8],
     head: Head,

@@ -1,6 +1,7 @@
 // Whole reply frames, written from the start of the lent reply buffer; the bytes after a frame keep their values. Each takes
 // the head of the received frame and requires the reply room, and gives the frame's length. Keys, titles, counters and texts
-// are given by the caller: nothing here knows a meter.
+// are given by the caller: nothing here knows a meter. The room stays a clause of each: a slice of that length as a type of its own would
+// ask more of callers, who lend any room that is long enough.
 #![tactic(auto)]
 
 mod enclosed;

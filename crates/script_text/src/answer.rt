@@ -58,7 +58,8 @@ impl<'a, P: Print> Answers<'a, P> {
         self.put(b"\n")
     }
 
-    // The answer to a call: its number, the reply, and a mark where a byte of the reply buffer after the reply was changed.
+    // The answer to a call: its number, the reply, and a mark where a byte of the reply buffer after the reply was changed; the whole
+    // buffer for that, and the count of the reply.
     pub fn put_answer(&mut self, refusal: u8, count: usize, reply: &[u8; REPLY]) -> fmt::Result {
         write!(self, "{refusal} ")?;
         self.put_reply(first(reply, count))?;

@@ -150,7 +150,7 @@ impl<'a> Fields<'a> {
         Ok(true)
     }
 
-    // A separator, and a decimal number up to `most`.
+    // A separator, and a decimal number up to `most`. A `while`, since each digit is held against the bound before the next is read.
     pub fn decimal(&mut self, separator: u8, most: u32) -> Result<u32, Unread>
         ensures { IfOk result (λ n. n ≤ most) }
     {

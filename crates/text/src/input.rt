@@ -4,6 +4,7 @@ ghost use Rattle.std.specs.Prelude.{◌≤◌, length};
 use std::io::Read;
 
 // Reads until the buffer is full, the input ends or a read fails, and gives how many bytes stand at its start.
+// A `while`, since each read says how far it came.
 pub fn read_full<R: Read>(input: &mut R, out: &mut [u8]) -> usize
     ensures { result ≤ length out.new }
 {

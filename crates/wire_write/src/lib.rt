@@ -43,7 +43,8 @@ pub fn put_all(out: &mut [u8], at: usize, s: &[u8]) -> usize
     at + s.len()
 }
 
-// The `n` bytes that stand at `from`, moved down to `to`. Where the two are one place, the bytes stand there already.
+// The `n` bytes that stand at `from`, moved down to `to`. Where the two are one place, the bytes stand there already. By places: the two
+// stretches may overlap, and std moves such by memmove, which the firmware has not.
 pub fn move_down(out: &mut [u8], from: usize, to: usize, n: usize) -> usize
     requires { (to ≤ from) × (from + n ≤ length out.old) }
     ensures { Wrote out.old to out.new result (take n (drop from out.old)) }

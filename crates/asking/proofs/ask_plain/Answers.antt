@@ -1,23 +1,21 @@
 -- `asking::ask_plain` meets its contract.
 use mathlib.Core.Path.{refl, sym, ◌∙◌}
+use Rattle.line.specs.View.{line_of}
 use Rattle.protocol.specs.Rulings.{malformed_apdu}
+use Rattle.asking.proofs.AllowedLaws.{plain_by}
+use Rattle.asking.proofs.ask_plain.Goals.{in_default-via-in-Some+else-may_ask, in_default-via-in_default}
 use Rattle.asking.proofs.ask_plain.Goals as goal
 
-pub returns-then-not-are_blocks_agreed : goal.returns-then-not-are_blocks_agreed
-returns-then-not-are_blocks_agreed c a =
-    rw (c.alone.ensures, (rw c.in-Some-GoesOn.field-0-is at (sym c.read_service.ensures ∙ c.in-Some-GoesOn.is)), sym c.are_blocks_agreed.ensures ∙ c.if-not-are_blocks_agreed.true)
-    (c.except.ensures c.args.meter.line malformed_apdu refl (λ d. refl) c.args.meter.body)
+pub returns-in-Some : goal.returns-in-Some
+returns-in-Some c a =
+    rw (sym c.read_service.ensures ∙ c.in-Some.is, plain_by (line_of c.args.meter.line) a c.args.head c.args.apdu.now c.args.client c.in-Some.reading, sym c.may_ask.ensures ∙ c.if-may_ask.true)
+    (c.answer_plain.ensures a.ak)
 
-pub returns-in-Some-Asks : goal.returns-in-Some-Asks
-returns-in-Some-Asks c a =
-    rw ((rw c.in-Some-Asks.field-0-is at (sym c.read_service.ensures ∙ c.in-Some-Asks.is))) (c.answer_plain.ensures a.ak)
-
-pub returns-else-not-are_blocks_agreed : goal.returns-else-not-are_blocks_agreed
-returns-else-not-are_blocks_agreed c a =
-    rw ((rw c.in-Some-GoesOn.field-0-is at (sym c.read_service.ensures ∙ c.in-Some-GoesOn.is)), sym c.are_blocks_agreed.ensures ∙ c.if-not-are_blocks_agreed.false)
-    (c.answer_plain-in-Some-GoesOn.ensures a.ak)
-
-pub returns-in-None : goal.returns-in-None
-returns-in-None c a =
-    rw (c.alone-in-None.ensures, sym c.read_service.ensures ∙ c.in-None.is)
-    (c.except-in-None.ensures c.args.meter.line malformed_apdu refl (λ d. refl) c.args.meter.body)
+pub returns-in_default : goal.returns-in_default
+returns-in_default c a =
+    let refused = c.except.ensures c.args.meter.line malformed_apdu refl (λ d. refl) c.args.meter.body in
+    elim c.in_default.branch [
+      | in_default-via-in-Some+else-may_ask w ↦
+          rw (c.alone.ensures, sym c.read_service.ensures ∙ w.in-Some.is, plain_by (line_of c.args.meter.line) a c.args.head c.args.apdu.now c.args.client w.in-Some.reading, sym w.may_ask.ensures ∙ w.if-may_ask.false) refused
+      | in_default-via-in_default w ↦ rw (c.alone.ensures, sym c.read_service.ensures ∙ w.in_default.is) refused
+    ]

@@ -1,9 +1,7 @@
--- `image::read::RegistersPart::read` meets its contract: its parts, each at its place.
-use mathlib.Core.Path.{refl}
+-- `image::read::RegistersPart::read` meets its contract.
 use Rattle.image.specs.Layout.{registers_part}
-use Rattle.image.proofs.CodecLaws.{got_both, got_fields}
 use Rattle.image.proofs.read.RegistersPart.read.Goals as goal
 
 pub returns : goal.returns
 unfolding registers_part
-returns c = got_fields _ _ (got_both c.read-count.ensures refl c.each_at-items.ensures)
+returns c = c.held_at.ensures

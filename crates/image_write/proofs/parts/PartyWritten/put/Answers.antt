@@ -9,7 +9,7 @@ use Rattle.image_write.proofs.parts.PartyWritten.put.Goals as goal
 pub returns : goal.returns
 unfolding party_part
 returns c =
-    put_fields _ _ (put_both (put_block c.put_array-a.ensures) (put_both c.put-b.ensures (put_both c.put-c.ensures (put_block c.put_3.ensures))))
+    put_fields _ _ (put_both (put_block c.put_array-a.ensures) (put_both c.put-b.ensures (put_both c.put-c.ensures (put_block c.put_array.ensures))))
 
 pub put_array-a-requires : goal.put_array-a-requires
 put_array-a-requires c = let z = sizes in (omega arith, omega arith)
@@ -20,5 +20,5 @@ put-b-requires c = let z = sizes in omega arith
 pub put-c-requires : goal.put-c-requires
 put-c-requires c = let z = sizes in omega arith
 
-pub put_3-requires : goal.put_3-requires
-put_3-requires c = let z = sizes in omega arith
+pub put_array-requires : goal.put_array-requires
+put_array-requires c = let z = sizes in (omega arith, omega arith)
