@@ -20,13 +20,13 @@ use Rattle.ending.specs.declared.Received.{Received}
 use Rattle.ending.specs.Handed.{handed as received}
 use Rattle.p2.specs.Promise.{Answered, lent}
 use Rattle.p2.proofs.LentLaws.{lent_told}
-use Rattle.std.specs.Prelude.{Result, Ok, Err}
+use Rattle.std.specs.Prelude.{Err}
 use Rattle.meter.specs.declared.Meter.{Meter}
 use Rattle.image.specs.declared.ImageFault.{ImageFault}
-use Rattle.image.specs.Image.{Status, whole, meter_of, status_of, read_by, read_image, fault_number, image_refusal}
-use Rattle.image.proofs.ImageLaws.{passed as whole-image}
+use Rattle.image.specs.Image.{Status, whole, meter_of, meter_in, status_of, fault_number, image_refusal}
+use Rattle.image.proofs.ImageLaws.{in_meter, passed as whole-image}
 use Rattle.owner_calls.specs.Promises.{image_for, Stores}
-use Rattle.owner_calls.proofs.CallLaws.{read_whole, fault_some}
+use Rattle.owner_calls.proofs.CallLaws.{fault_some}
 use Rattle.capi.specs.Refusals.{frame_refusal}
 use Rattle.capi.specs.Promises.{Receives, FrameCalled, FrameEnds}
 
@@ -35,15 +35,6 @@ use Rattle.capi.specs.Promises.{Receives, FrameCalled, FrameEnds}
 -- by what is lent
 refusal_lent : (t : Status) (x : ℕ) → (x ≡ 0 → ⊥) → x ≡ frame_refusal t x
 refusal_lent t x h = rw (ne_eqb x 0 h) refl
-
--- by the state buffer
-abbrev told_fault : Result Meter ImageFault → ℕ
-told_fault (Ok m) = 0
-told_fault (Err f) = fault_number f
-
-read_fault : (t : Status) (m : Meter) {f : ImageFault} → Err f ≡ read_by t m → fault_number f ≡ image_refusal t
-read_fault (Ok u) m e = ap told_fault e
-read_fault (Err g) m e = ap told_fault e
 
 -- The call.
 
@@ -95,17 +86,16 @@ module _ (a : Lent) {s l : List ℕ} {x : ℕ} (i : lent_refusal a ≡ x) where
   pub refused_lent : (x ≡ 0 → ⊥) → FrameCalled a s s l l 0 x
   refused_lent h = frame_refused (refusal_lent (status_of s) x h) h
 
-  pub refused_image : x ≡ 0 → (f : ImageFault) → Err f ≡ read_image s → FrameCalled a s s l l 0 (fault_number f)
+  pub refused_image : x ≡ 0 → (f : ImageFault) → Err f ≡ status_of s → FrameCalled a s s l l 0 (fault_number f)
   refused_image z f e =
-      frame_refused (read_fault (status_of s) (meter_of s) e ∙ ap (λ (k : ℕ). cond (eqb k 0) (image_refusal (status_of s)) k) (sym z)) (fault_some f)
+      frame_refused (ap image_refusal e ∙ ap (λ (k : ℕ). cond (eqb k 0) (image_refusal (status_of s)) k) (sym z)) (fault_some f)
 
-  pub frame_called : {m : Meter} {r : Received} {f o : List ℕ} {k : ℕ} → x ≡ 0 → Ok m ≡ read_image s → Answered a m l o r → FrameEnds r s f k → FrameCalled a s f l o r.count k
-  frame_called {m} {r = r} {o = o} z j v d =
-      let w = read_whole (status_of s) (sym j) in
-      let y : frame_refusal (status_of s) (lent_refusal a) ≡ 0 = rw (i, z, w.0) refl in
+  pub frame_called : {m : Meter} {r : Received} {f o : List ℕ} {k : ℕ} → x ≡ 0 → status_of s ≡ whole → m ≡ meter_in s → Answered a m l o r → FrameEnds r s f k → FrameCalled a s f l o r.count k
+  frame_called {m} {r = r} {o = o} z w j v d =
+      let y : frame_refusal (status_of s) (lent_refusal a) ≡ 0 = rw (i, z, w) refl in
       record {
         refused = λ h. absurd (h y);
-        called = λ _. heard (subst (λ (m : Meter). Answered a m l o r) (sym w.1) v) w.0 d;
+        called = λ _. heard (subst (λ (m : Meter). Answered a m l o r) (j ∙ in_meter s (whole-image s w).long) v) w d;
         kept = d.kept;
       }
 
@@ -114,8 +104,9 @@ module _ (n : ℕ) (g k c f : List ℕ) {s l : List ℕ} {x : ℕ} (i : x ≡ le
   pub refused_before : (x ≡ 0 → ⊥) → FrameCalled (lent n g k c f) s s l l 0 x
   refused_before = refused_lent (lent n g k c f) (lent_told n g k c f i)
 
-  pub refused_by_image : x ≡ 0 → {t : ImageFault} {m : ℕ} → Err t ≡ read_image s → m ≡ fault_number t → FrameCalled (lent n g k c f) s s l l 0 m
+  pub refused_by_image : x ≡ 0 → {t : ImageFault} {m : ℕ} → Err t ≡ status_of s → m ≡ fault_number t → FrameCalled (lent n g k c f) s s l l 0 m
   refused_by_image z {t} e d = subst (λ (y : ℕ). FrameCalled (lent n g k c f) s s l l 0 y) (sym d) (refused_image (lent n g k c f) (lent_told n g k c f i) z t e)
 
-  pub called_on_image : {m : Meter} {r : Received} {e o : List ℕ} {y : ℕ} → x ≡ 0 → Ok m ≡ read_image s → Answered (lent n g k c f) m l o r → FrameEnds r s e y → FrameCalled (lent n g k c f) s e l o r.count y
-  called_on_image = frame_called (lent n g k c f) (lent_told n g k c f i)
+-- What is lent was taken, and the buffer holds a whole image.
+pub called_on_image : {a : Lent} {s l : List ℕ} {m : Meter} {r : Received} {e o : List ℕ} {y : ℕ} → lent_refusal a ≡ 0 → status_of s ≡ whole → m ≡ meter_in s → Answered a m l o r → FrameEnds r s e y → FrameCalled a s e l o r.count y
+called_on_image {a} i = frame_called a i refl

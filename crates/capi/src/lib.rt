@@ -7,9 +7,10 @@
 #![tactic(auto)]
 
 ghost use Rattle.std.specs.Prelude.{◌≡◌, length};
+ghost use Rattle.model.specs.Calls.{lent_refusal};
 ghost use Rattle.model.specs.Periods.{listed};
 ghost use Rattle.protocol.specs.Outcomes.{keeping};
-ghost use Rattle.image.specs.Image.{image_size};
+ghost use Rattle.image.specs.Image.{image_size, status_of, whole};
 ghost use Rattle.owner_calls.specs.Lending.{LentOwner};
 ghost use Rattle.owner_calls.specs.Promises.{NewCalled, OwnerCalled};
 ghost use Rattle.p2.specs.Promise.{lent};
@@ -111,7 +112,7 @@ pub extern "C" fn birlimock_power_up(state: &mut [u8]) -> u8
 
 // A frame is received; `sent` is how many bytes of the reply room go out. Refusals 1 and 2, then 101, 102 and 3, then 4 to 13.
 #[unsafe(no_mangle)]
-#[tactic(auto, using(crate::proofs::FrameLaws::refused_before, crate::proofs::FrameLaws::called_on_image))]
+#[tactic(auto, using(crate::proofs::FrameLaws::refused_before))]
 pub extern "C" fn birlimock_receive(
     state: &mut [u8],
     frame: &[u8],
@@ -128,16 +129,38 @@ pub extern "C" fn birlimock_receive(
     if refusal != 0 {
         return refusal;
     }
-    let meter = match image::read_image(state) {
-        Ok(meter) => meter,
-        Err(fault) => return fault.number(),
-    };
+    if let Err(fault) = image::status_of(state) {
+        return fault.number();
+    }
+    receive_held(state, frame, guk, ak, challenge, reply, sent)
+}
+
+// The frame call that is made, on the meter in the buffer. Out of line, so that a call that is refused before takes no stack for a
+// meter.
+#[inline(never)]
+#[tactic(auto, using(crate::proofs::FrameLaws::called_on_image))]
+fn receive_held(
+    state: &mut [u8],
+    frame: &[u8],
+    guk: &[u8],
+    ak: &[u8],
+    challenge: &[u8],
+    reply: &mut [u8],
+    sent: &mut usize,
+) -> u8
+    requires taken { lent_refusal (lent (length reply.old) guk.now ak.now challenge.now frame.now) ≡ 0 }
+    requires held { status_of state.old ≡ whole }
+    ensures { FrameCalled (lent (length reply.old) guk.now ak.now challenge.now frame.now) state.old state.new reply.old reply.new sent.new result }
+{
+    let meter = image::meter_in(state);
     let received = p2::receive(meter, frame, guk, ak, challenge, reply);
     *sent = received.count;
     frame_end(received, state)
 }
 
-// The end of a frame call: its number, and the meter in the buffer unless the refusal is one that leaves it unchanged.
+// The end of a frame call: its number, and the meter in the buffer unless the refusal is one that leaves it unchanged. Out of line,
+// so that it adds nothing to the stack of the call itself.
+#[inline(never)]
 fn frame_end(received: Received, state: &mut [u8]) -> u8
     ensures { FrameEnds received state.old state.new result }
 {

@@ -2,8 +2,8 @@
 use mathlib.Core.Path.{◌≡◌, sym, subst, ap, ◌∙◌}
 use mathlib.Core.Bool.{Bool, true, false, and-true}
 use mathlib.Core.List.{List}
-use Prim.Native.Nat.{ℕ, min, ◌/◌, ◌%◌, ◌≤◌, ◌<◌}
-use native.Mathlib.Nat.{min-eq_left}
+use Prim.Native.Nat.{ℕ, min, ◌+◌, ◌*◌, ◌/◌, ◌%◌, ◌≤◌, ◌<◌}
+use native.Mathlib.Nat.{min-eq_left, div-mul-le_self}
 use native.Mathlib.Omega.{arith}
 use lib.Dec.{eqb}
 use lib.ListN.{length, take}
@@ -19,6 +19,10 @@ module _ {A : Type 0} (c : Codec A) {z : ℕ} (q : c.size ≡ z) (s : List ℕ) 
 
   same_count : length s / c.size ≡ length s / z
   same_count = ap (λ (n : ℕ). length s / n) q
+
+  -- the records that are counted stand within the bytes
+  pub counted_room : 0 + (length s / z) * c.size ≤ length s
+  counted_room = omega (arith, ap (λ (n : ℕ). (length s / n) * c.size) q, div-mul-le_self (length s) c.size)
 
   pub not_whole : (length s % z ≡ 0 → ⊥) → false ≡ whole_list c s
   unfolding whole_list

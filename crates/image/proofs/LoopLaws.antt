@@ -1,17 +1,15 @@
 -- As many parts as are asked for, one after the other: read into an array, and their bytes tested. Over any part.
-use mathlib.Core.Path.{◌≡◌, refl, sym, subst, ap, ap₂, ◌∙◌}
+use mathlib.Core.Path.{◌≡◌, refl, sym, ap, ap₂, ◌∙◌}
 use mathlib.Core.Bool.{Bool, true, false, ◌&&◌, and-false}
-use mathlib.Core.List.{List, []}
+use mathlib.Core.List.{List, [], ◌∷◌, ◌++◌}
 use Prim.Native.Nat.{ℕ, zero, suc, ◌+◌, ◌*◌, ◌≤◌, ◌<◌}
-use native.Mathlib.Nat.{zero-mul, suc-mul, mul-le-mul_right, add-zero, zero-add}
+use native.Mathlib.Nat.{zero-mul, suc-mul, mul-le-mul_right, zero-add}
+use native.Mathlib.Numerals.{add-one}
 use native.Mathlib.Omega.{arith}
-use lib.ListN.{length, take, drop, get_or}
-use lib.Seq.{take_all, drop-drop, length-take-le}
-use Rattle.std.specs.Fn.{Mut, Called}
-use Rattle.std.specs.Array.{IsFromFnResult, IsFromFnResultFrom}
+use lib.ListN.{length, take, drop, set, get_or, length-set}
+use lib.Seq.{take-suc-set, take_all, drop-drop}
 use Rattle.std.specs.Bool.{MatchBool}
 use Rattle.std.specs.List.{range_with_len, AllWithin, HoldsAt}
-use Rattle.std.proofs.lemmas.List.{ext_get_or, get_or-take}
 use Rattle.std.proofs.lemmas.List.FromFn.{length-range_with_len, get_or-range_with_len}
 use Rattle.image.specs.Codec.{Codec, values, all_taken, many, Got}
 use Rattle.image.specs.Lists.{Firsts}
@@ -19,20 +17,6 @@ use Rattle.image.specs.Lists.{Firsts}
 -- the room for one more
 pub room_more : (i n z at : ℕ) {l : ℕ} → i < n → at + n * z ≤ l → at + i * z + z ≤ l
 room_more i n z at j h = omega (arith, suc-mul i z, mul-le-mul_right {m = suc i} {n = n} z (omega arith))
-
--- an array that was made place by place, by a closure that stays as it is: what a call gives holds of each place
-module _ {F B : Type 0} (g : Mut F (ℕ × Unit {0}) B) {f : F} (P : ℕ → B → Type 0) (call : (i : ℕ) (y : B) (q : F) → Called g f (i, tt) y q → (q ≡ f) × P i y) (ys : List B) (d : B) where
-  from_call : (i n : ℕ) → IsFromFnResultFrom g f ys i n → (j : ℕ) → j < n → P (i + j) (get_or ys (i + j) d)
-  from_call i zero w j h = absurd (omega arith)
-  from_call i (suc n) (q, y, el, c, rest) zero h =
-      rw (add-zero i) (subst (P i) (sym (el.1 d)) (call i y q c).1)
-  from_call i (suc n) (q, y, el, c, rest) (suc j) h =
-      let next : i + 1 + j ≡ i + suc j = omega arith in
-      subst (λ (k : ℕ). P k (get_or ys k d)) next
-      (from_call (i + 1) n (subst (λ (p : F). IsFromFnResultFrom g p ys (i + 1) n) (call i y q c).0 rest) j (omega arith))
-
-  pub from_calls : {n : ℕ} → IsFromFnResult g f ys n → (i : ℕ) → i < n → P i (get_or ys i d)
-  from_calls {n} r i h = subst (λ (k : ℕ). P k (get_or ys k d)) (zero-add i) (from_call 0 n r.each i h)
 
 -- element i of an array
 pub value_at_lem : {A : Type 0} (c : Codec A) (n : ℕ) (s : List ℕ) (i : ℕ) (d : A) → i < n → get_or (values c n s) i d ≡ c.value (drop (i * c.size) s)
@@ -50,22 +34,43 @@ unfolding values
 length_values c zero s = refl
 length_values c (suc n) s = ap suc (length_values c n (drop c.size s))
 
--- an array whose first places were read, each at its place
-pub firsts_by : {A : Type 0} {c : Codec A} {places n z : ℕ} {s : List ℕ} {at : ℕ} {xs : List A} → c.size ≡ z → length xs ≡ places → n ≤ places
-    → ((i : ℕ) → i < n → Got c s (at + i * z) (get_or xs i (c.value [])))
-    → Firsts c places n s at xs
-firsts_by {c = c} {n = n} {z = z} {s = s} {at = at} {xs = xs} q full fits got =
-    let d = c.value [] in
-    let long : length (take n xs) ≡ n = length-take-le n xs (omega arith) in
-    record {
-      full = full;
-      are = ext_get_or d (take n xs) (values c n (drop at s)) (long ∙ sym (length_values c n (drop at s)))
-          (λ i h.
-          get_or-take n xs i d (omega (arith, long))
-          ∙ (got i (omega (arith, long))).is
-          ∙ ap c.value (ap (λ (k : ℕ). drop (at + i * k) s) (sym q) ∙ sym (drop-drop (i * c.size) at s))
-          ∙ sym (value_at_lem c n (drop at s) i d (omega (arith, long))));
-    }
+-- Of n parts that are read into so many places the first i are read.
+pub record Getting {A : Type 0} (c : Codec A) (places n : ℕ) (s : List ℕ) (at : ℕ) (out : List A) (i : ℕ) : Type 0 where
+  pub below : i ≤ n
+  pub full : length out ≡ places
+  pub done : take i out ≡ values c i (drop at s)
+
+-- one more, at its place
+values_last : {A : Type 0} (c : Codec A) (n : ℕ) (s : List ℕ) → values c (suc n) s ≡ values c n s ++ (c.value (drop (n * c.size) s) ∷ [])
+unfolding values
+values_last c zero s = rw (zero-mul c.size)
+values_last c (suc n) s =
+    let z = c.size in
+    let j : z + n * z ≡ suc n * z = omega (arith, suc-mul n z) in
+    ap (◌∷◌ (c.value s)) (values_last c n (drop z s) ∙ ap (λ (t : List ℕ). values c n (drop z s) ++ (c.value t ∷ [])) (drop-drop (n * z) z s ∙ ap (λ (k : ℕ). drop k s) j))
+
+module _ {A : Type 0} {c : Codec A} {places n : ℕ} {s : List ℕ} {at : ℕ} {out : List A} where
+  pub getting_none : length out ≡ places → Getting c places n s at out 0
+  unfolding values
+  getting_none e = record { below = omega arith; full = e; done = refl }
+
+  module _ {i : ℕ} (p : Getting c places n s at out i) where
+    pub getting_more : {x : A} {z : ℕ} → c.size ≡ z → n ≤ places → i < n → Got c s (at + i * z) x → Getting c places n s at (set out i x) (i + 1)
+    getting_more {x} {z} q fits h g =
+        let o : i < length out = omega (arith, p.full, fits) in
+        let v : values c (suc i) (drop at s) ≡ values c i (drop at s) ++ (x ∷ []) =
+        values_last c i (drop at s)
+        ∙ ap (λ (t : A). values c i (drop at s) ++ (t ∷ [])) (ap c.value (drop-drop (i * c.size) at s ∙ ap (λ (k : ℕ). drop (at + i * k) s) q) ∙ sym g.is) in
+        record {
+          below = omega arith;
+          full = length-set out i x ∙ p.full;
+          done = rw add-one (take-suc-set out i x o ∙ ap (λ (t : List A). t ++ (x ∷ [])) p.done ∙ sym v);
+        }
+
+    pub getting_firsts : n ≤ i → Firsts c places n s at out
+    getting_firsts h =
+        let j : i ≡ n = omega (arith, p.below) in
+        record { full = p.full; are = rw j at p.done }
 
 -- where every place is read
 pub firsts_all : {A : Type 0} {c : Codec A} {n : ℕ} {s : List ℕ} {at : ℕ} {xs : List A} → Firsts c n n s at xs → Got (many n c) s at xs

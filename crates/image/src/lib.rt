@@ -15,6 +15,7 @@ use check::Tested;
 pub use lists::{are_names, are_registers, names_in, registers_in};
 use meter::Meter;
 pub use part::Part;
+use part::Readable;
 
 // How many bytes an image has, and the first of them.
 pub const SIZE: usize = 1766;
@@ -77,6 +78,7 @@ pub fn meter_in(s: &[u8]) -> Meter
     Meter::read(s, 1)
 }
 
+#[inline(never)]
 fn blank_meter() -> Meter
     ensures { result ≡ blank_meter }
 {

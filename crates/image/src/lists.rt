@@ -5,7 +5,7 @@ ghost use Rattle.image.specs.Layout.{name_part, register_part};
 ghost use Rattle.image.specs.Lists.{Begins, whole_list};
 
 use crate::check::each_taken;
-use crate::part::{Part, firsts_at};
+use crate::part::{Part, Readable, firsts_at};
 use model::{Name, Register};
 
 // Whether bytes are whole records of registers, each with a right that is 0 or 1.
@@ -43,7 +43,7 @@ pub fn names_in(s: &[u8]) -> [Name; 16]
     firsts_in(s, Name { bytes: [0; 6] })
 }
 
-fn firsts_in<T: Part, const N: usize>(s: &[u8], blank: T) -> [T; N]
+fn firsts_in<T: Readable, const N: usize>(s: &[u8], blank: T) -> [T; N]
     requires { 0 < T.SIZE }
     ensures { Begins T.part N s.now result }
 {

@@ -4,7 +4,7 @@ ghost use Rattle.image.specs.Codec.{byte, flag, Got, number, phase, picking_kind
 ghost use Rattle.image.specs.Layout.{body_part, cipher_party_part, clock_part, columns_part, counters_part, line_part, meter_part, name_part, party_part, picking_part, register_part, registers_part, row_part, rows_part, transfer_part};
 ghost use Rattle.image.specs.Sizes.{sizes};
 
-use crate::part::{Part, each_at, held_at};
+use crate::part::{Part, Readable, each_at, held_at};
 use body::BodyState;
 use line::{CipherParty, LineState, Party, Phase};
 use meter::Meter;
@@ -19,13 +19,16 @@ impl Part for Meter {
 
     const SIZE: usize = 1765;
 
-    fn read(s: &[u8], at: usize) -> Meter {
-        let line = LineState::read(s, at);
-        let body = BodyState::read(s, at + LineState::SIZE);
-        Meter { line, body }
-    }
-
     ghost sized = { sizes.meter_size };
+}
+
+impl Readable for Meter {
+    fn read(s: &[u8], at: usize) -> Meter {
+        Meter {
+            line: LineState::read(s, at),
+            body: BodyState::read(s, at + LineState::SIZE),
+        }
+    }
 }
 
 impl Part for LineState {
@@ -35,6 +38,10 @@ impl Part for LineState {
 
     const SIZE: usize = 75;
 
+    ghost sized = { sizes.line_size };
+}
+
+impl Readable for LineState {
     fn read(s: &[u8], at: usize) -> LineState {
         let title = wire::array_at(s, at);
         let a = at + 8;
@@ -49,8 +56,6 @@ impl Part for LineState {
             p5,
         }
     }
-
-    ghost sized = { sizes.line_size };
 }
 
 impl Part for Party {
@@ -60,6 +65,10 @@ impl Part for Party {
 
     const SIZE: usize = 13;
 
+    ghost sized = { sizes.party_size };
+}
+
+impl Readable for Party {
     fn read(s: &[u8], at: usize) -> Party {
         let title = wire::array_at(s, at);
         let a = at + 8;
@@ -74,8 +83,6 @@ impl Part for Party {
             agreed,
         }
     }
-
-    ghost sized = { sizes.party_size };
 }
 
 impl Part for CipherParty {
@@ -85,6 +92,10 @@ impl Part for CipherParty {
 
     const SIZE: usize = 53;
 
+    ghost sized = { sizes.cipher_party_size };
+}
+
+impl Readable for CipherParty {
     fn read(s: &[u8], at: usize) -> CipherParty {
         let party = Party::read(s, at);
         let a = at + Party::SIZE;
@@ -102,8 +113,6 @@ impl Part for CipherParty {
             counters,
         }
     }
-
-    ghost sized = { sizes.cipher_party_size };
 }
 
 impl Part for Counters {
@@ -113,13 +122,15 @@ impl Part for Counters {
 
     const SIZE: usize = 8;
 
+    ghost sized = { sizes.counters_size };
+}
+
+impl Readable for Counters {
     fn read(s: &[u8], at: usize) -> Counters {
         let accepted = u32::read(s, at);
         let sent = u32::read(s, at + 4);
         Counters { accepted, sent }
     }
-
-    ghost sized = { sizes.counters_size };
 }
 
 impl Part for BodyState {
@@ -129,6 +140,11 @@ impl Part for BodyState {
 
     const SIZE: usize = 1690;
 
+    ghost sized = { sizes.body_size };
+}
+
+impl Readable for BodyState {
+    #[inline(never)]
     fn read(s: &[u8], at: usize) -> BodyState {
         let device = wire::array_at(s, at);
         let a = at + 16;
@@ -155,8 +171,6 @@ impl Part for BodyState {
             transfer,
         }
     }
-
-    ghost sized = { sizes.body_size };
 }
 
 impl Part for Name {
@@ -166,13 +180,15 @@ impl Part for Name {
 
     const SIZE: usize = 6;
 
+    ghost sized = { sizes.name_size };
+}
+
+impl Readable for Name {
     fn read(s: &[u8], at: usize) -> Name {
         Name {
             bytes: wire::array_at(s, at),
         }
     }
-
-    ghost sized = { sizes.name_size };
 }
 
 impl Part for Clock {
@@ -182,13 +198,15 @@ impl Part for Clock {
 
     const SIZE: usize = 12;
 
+    ghost sized = { sizes.clock_size };
+}
+
+impl Readable for Clock {
     fn read(s: &[u8], at: usize) -> Clock {
         Clock {
             bytes: wire::array_at(s, at),
         }
     }
-
-    ghost sized = { sizes.clock_size };
 }
 
 impl Part for Registers {
@@ -198,11 +216,13 @@ impl Part for Registers {
 
     const SIZE: usize = 216;
 
-    fn read(s: &[u8], at: usize) -> Registers {
-        held_at(s, at)
-    }
-
     ghost sized = { sizes.registers_size };
+}
+
+impl Readable for Registers {
+    fn read(s: &[u8], at: usize) -> Registers {
+        held_at(s, at, store::BLANK_REGISTER)
+    }
 }
 
 impl Part for Register {
@@ -212,6 +232,10 @@ impl Part for Register {
 
     const SIZE: usize = 13;
 
+    ghost sized = { sizes.register_size };
+}
+
+impl Readable for Register {
     fn read(s: &[u8], at: usize) -> Register {
         let name = Name::read(s, at);
         let a = at + Name::SIZE;
@@ -229,8 +253,6 @@ impl Part for Register {
             value,
         }
     }
-
-    ghost sized = { sizes.register_size };
 }
 
 impl Part for Columns {
@@ -240,11 +262,13 @@ impl Part for Columns {
 
     const SIZE: usize = 104;
 
-    fn read(s: &[u8], at: usize) -> Columns {
-        held_at(s, at)
-    }
-
     ghost sized = { sizes.columns_size };
+}
+
+impl Readable for Columns {
+    fn read(s: &[u8], at: usize) -> Columns {
+        held_at(s, at, store::BLANK_NAME)
+    }
 }
 
 impl Part for Rows {
@@ -254,11 +278,13 @@ impl Part for Rows {
 
     const SIZE: usize = 1298;
 
-    fn read(s: &[u8], at: usize) -> Rows {
-        held_at(s, at)
-    }
-
     ghost sized = { sizes.rows_size };
+}
+
+impl Readable for Rows {
+    fn read(s: &[u8], at: usize) -> Rows {
+        held_at(s, at, store::BLANK_ROW)
+    }
 }
 
 impl Part for Row {
@@ -268,13 +294,17 @@ impl Part for Row {
 
     const SIZE: usize = 86;
 
+    ghost sized = { sizes.row_size };
+}
+
+impl Readable for Row {
     fn read(s: &[u8], at: usize) -> Row {
         let number = u16::read(s, at);
         let a = at + 2;
         let clock = Clock::read(s, a);
         let b = a + Clock::SIZE;
         let count = usize::read(s, b);
-        let cells = each_at(s, b + 8);
+        let cells = each_at(s, b + 8, 0);
         Row {
             number,
             clock,
@@ -282,8 +312,6 @@ impl Part for Row {
             cells,
         }
     }
-
-    ghost sized = { sizes.row_size };
 }
 
 impl Part for Transfer {
@@ -293,6 +321,10 @@ impl Part for Transfer {
 
     const SIZE: usize = 38;
 
+    ghost sized = { sizes.transfer_size };
+}
+
+impl Readable for Transfer {
     fn read(s: &[u8], at: usize) -> Transfer {
         let progress = Progress::read(s, at);
         let a = at + 1;
@@ -304,8 +336,6 @@ impl Part for Transfer {
             block,
         }
     }
-
-    ghost sized = { sizes.transfer_size };
 }
 
 impl Part for Picking {
@@ -315,6 +345,10 @@ impl Part for Picking {
 
     const SIZE: usize = 33;
 
+    ghost sized = { sizes.picking_size };
+}
+
+impl Readable for Picking {
     fn read(s: &[u8], at: usize) -> Picking {
         let kind = PickingKind::read(s, at);
         let a = at + 1;
@@ -332,8 +366,6 @@ impl Part for Picking {
             to,
         }
     }
-
-    ghost sized = { sizes.picking_size };
 }
 
 impl Part for bool {
@@ -343,11 +375,13 @@ impl Part for bool {
 
     const SIZE: usize = 1;
 
+    ghost sized = { sizes.flag_size };
+}
+
+impl Readable for bool {
     fn read(s: &[u8], at: usize) -> bool {
         s[at] == 1
     }
-
-    ghost sized = { sizes.flag_size };
 }
 
 impl Part for Phase {
@@ -357,11 +391,13 @@ impl Part for Phase {
 
     const SIZE: usize = 1;
 
+    ghost sized = { sizes.phase_size };
+}
+
+impl Readable for Phase {
     fn read(s: &[u8], at: usize) -> Phase {
         one_of(s[at], Phase::Idle, Phase::Pending, Phase::Associated)
     }
-
-    ghost sized = { sizes.phase_size };
 }
 
 impl Part for Progress {
@@ -371,11 +407,13 @@ impl Part for Progress {
 
     const SIZE: usize = 1;
 
+    ghost sized = { sizes.progress_size };
+}
+
+impl Readable for Progress {
     fn read(s: &[u8], at: usize) -> Progress {
         one_of(s[at], Progress::Idle, Progress::Running, Progress::Ended)
     }
-
-    ghost sized = { sizes.progress_size };
 }
 
 impl Part for PickingKind {
@@ -385,6 +423,10 @@ impl Part for PickingKind {
 
     const SIZE: usize = 1;
 
+    ghost sized = { sizes.kind_size };
+}
+
+impl Readable for PickingKind {
     fn read(s: &[u8], at: usize) -> PickingKind {
         one_of(
             s[at],
@@ -393,8 +435,6 @@ impl Part for PickingKind {
             PickingKind::Numbered,
         )
     }
-
-    ghost sized = { sizes.kind_size };
 }
 
 impl Part for u8 {
@@ -404,11 +444,13 @@ impl Part for u8 {
 
     const SIZE: usize = 1;
 
+    ghost sized = { refl };
+}
+
+impl Readable for u8 {
     fn read(s: &[u8], at: usize) -> u8 {
         s[at]
     }
-
-    ghost sized = { refl };
 }
 
 impl Part for u16 {
@@ -418,14 +460,16 @@ impl Part for u16 {
 
     const SIZE: usize = 2;
 
+    ghost sized = { refl };
+}
+
+impl Readable for u16 {
     fn read(s: &[u8], at: usize) -> u16 {
         match wire::number_at::<2>(s, at) {
             Some((value, _)) => value as u16,
             None => 0,
         }
     }
-
-    ghost sized = { refl };
 }
 
 impl Part for u32 {
@@ -435,14 +479,16 @@ impl Part for u32 {
 
     const SIZE: usize = 4;
 
+    ghost sized = { refl };
+}
+
+impl Readable for u32 {
     fn read(s: &[u8], at: usize) -> u32 {
         match wire::number_at::<4>(s, at) {
             Some((value, _)) => value,
             None => 0,
         }
     }
-
-    ghost sized = { refl };
 }
 
 impl Part for usize {
@@ -452,13 +498,15 @@ impl Part for usize {
 
     const SIZE: usize = 8;
 
+    ghost sized = { refl };
+}
+
+impl Readable for usize {
     fn read(s: &[u8], at: usize) -> usize {
         let high = u32::read(s, at) as usize;
         let low = u32::read(s, at + 4) as usize;
         high * 4294967296 + low
     }
-
-    ghost sized = { refl };
 }
 
 // One of three, by a byte that is 0, 1 or 2.

@@ -11,6 +11,7 @@ use Rattle.wire.specs.Wrote.{Wrote}
 use Rattle.wire_write.proofs.FlatLaws.{flat_more}
 use Rattle.wire_write.proofs.WroteLaws.{then, nothing}
 use Rattle.image.specs.Codec.{Codec, Each, none, more, many}
+use Rattle.image.proofs.LoopLaws.{room_more}
 use Rattle.image_write.specs.Writing.{Put}
 
 -- The first i elements are written.
@@ -42,6 +43,9 @@ module _ {A : Type 0} {c : Codec A} {n : ℕ} {xs : List A} {l : List ℕ} {at :
         sized = ap length f ∙ length-append (flat_map c.bytes (take i xs)) (c.bytes x) ∙ ap₂ ◌+◌ p.sized w.sized ∙ rw add-one (sym (suc-mul i c.size));
         each = rw t (each_more p.each w.holds);
       }
+
+  pub putting_room : {m : List ℕ} {k i : ℕ} → Putting c n xs l at m k i → at + n * c.size ≤ length l → i < n → k + c.size ≤ length m
+  putting_room {i = i} p h j = omega (arith, p.sized, p.wrote.next, p.wrote.kept, room_more i n c.size at j h)
 
   pub putting_all : {m : List ℕ} {k i : ℕ} → Putting c n xs l at m k i → n ≤ i → Put (many n c) xs l at m k
   putting_all {i = i} p h =

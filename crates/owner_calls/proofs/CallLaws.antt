@@ -22,12 +22,15 @@ use Rattle.meter.specs.Canonical.{Cleared, Fresh}
 use Rattle.std.specs.Prelude.{Result, Ok, Err}
 use Rattle.image.specs.declared.ImageFault.{ImageFault}
 use Rattle.image.specs.declared.ImageFault.TheVariants.{WrongLength, WrongVersion, NoImage}
-use Rattle.image.specs.Image.{Status, whole, image_size, image_of, meter_of, read_by, status_of, read_image, fault_number, image_refusal, not_sound}
-use Rattle.image.proofs.ImageLaws.{passed as whole-image}
+use Rattle.image.specs.Image.{Status, whole, image_size, image_of, meter_of, meter_in, read_by, status_of, fault_number, image_refusal, not_sound}
+use Rattle.image.proofs.ImageLaws.{in_meter, passed as whole-image}
 use Rattle.image_write.specs.declared.WrongBuffer.{WrongBuffer}
 use Rattle.image_write.specs.Writing.{Writes}
 use Rattle.image_write.proofs.WritesLaws.{answered}
-use Rattle.owner_calls.specs.Refusals.{MeterFor, wrong_argument, fault_of, fault_refusal, refusal_by, new_refusal, new_sized, sized}
+use Rattle.owner_calls.specs.declared.refusals.ArgumentFault.{ArgumentFault}
+use Rattle.owner_calls.specs.declared.refusals.ArgumentFault.TheVariants.{ClockNotValid, RegistersBad, NoSuchRegister, ColumnsBad, WrongArgument}
+use Rattle.owner_calls.specs.declared.refusals.Refusal.{Refusal}
+use Rattle.owner_calls.specs.Refusals.{MeterFor, number, argument_number, wrong_argument, fault_of, fault_refusal, refusal_by, new_refusal, new_sized, sized}
 use Rattle.owner_calls.specs.Lending.{LentOwner, fault, owner_of}
 use Rattle.owner_calls.specs.Promises.{image_for, Stores, NewCalled, Owns, refusal_for, OwnerCalled, Ends}
 
@@ -76,9 +79,31 @@ refusal_none (Err WrongLength) y k e = absurd (omega arith)
 refusal_none (Err WrongVersion) y k e = absurd (omega arith)
 refusal_none (Err NoImage) y k e = absurd (omega arith)
 
--- the meter that was read, for a call without an argument that could be refused
-pub read_taken : (s : List ℕ) (m : Meter) → Ok m ≡ read_image s → MeterFor s 0 (Ok m)
-read_taken s m e = let w = read_whole (status_of s) (sym e) in (rw w.0 refl, sym w.1)
+-- The meter in a whole image, as it is read.
+
+argument_some : (f : ArgumentFault) → argument_number f ≡ 0 → ⊥
+argument_some ClockNotValid e = omega arith
+argument_some RegistersBad e = omega arith
+argument_some NoSuchRegister e = omega arith
+argument_some ColumnsBad e = omega arith
+argument_some WrongArgument e = omega arith
+
+refused_some : (y : Bool) (f : ArgumentFault) → cond y (argument_number f) not_sound ≡ 0 → ⊥
+refused_some true f e = argument_some f e
+refused_some false f e = absurd (omega arith)
+
+module _ (s : List ℕ) {m : Meter} (w : status_of s ≡ whole) (e : m ≡ meter_in s) where
+  held_is : m ≡ meter_of s
+  held_is = e ∙ in_meter s (whole-image s w).long
+
+  -- for a call whose argument is taken, or that has none
+  pub meter_taken : {k : ℕ} → k ≡ 0 → MeterFor s k (Ok m)
+  meter_taken z = (rw (w, z) refl, held_is)
+
+  -- for a call whose argument has a fault: the meter is tested first
+  pub argument_refused : {b y : Bool} (f : ArgumentFault) (r : Refusal) → b ≡ false → y ≡ sound (view m) → number r ≡ cond y (argument_number f) not_sound → MeterFor s (fault_of b (argument_number f)) (Err r)
+  argument_refused {b} {y} f r p q z =
+      (z ∙ rw (w, p, sym held_is, sym q, ne_eqb (argument_number f) 0 (argument_some f)) refl, λ o. refused_some y f (sym z ∙ o))
 
 -- Calls on the meter in the buffer.
 

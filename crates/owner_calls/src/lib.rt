@@ -6,6 +6,7 @@
 
 mod refusals;
 
+ghost use Rattle.std.specs.Prelude.{◌≡◌, ◌↔◌, IsOk};
 ghost use Rattle.owner_calls.specs.Lending.{LentOwner};
 ghost use Rattle.owner_calls.specs.Promises.{Ends, NewCalled, OwnerCalled};
 ghost use Rattle.owner_calls.specs.Refusals.{number_of};
@@ -24,7 +25,8 @@ pub fn new(
     v_title: &[u8],
     h_title: &[u8],
 ) -> Result<(), Refusal>
-    ensures { NewCalled device.now title.now v_title.now h_title.now state.old state.new (number_of result) }
+    ensures called { NewCalled device.now title.now v_title.now h_title.now state.old state.new (number_of result) }
+    ensures told { IsOk result ↔ (number_of result ≡ 0) }
 {
     if state.len() != SIZE {
         return Err(Refusal::Image(ImageFault::WrongLength));
@@ -45,7 +47,8 @@ pub fn new(
 
 // Registers are given anew. Refusals 101, 102, 3 and 16.
 pub fn give_registers(state: &mut [u8], registers: &[u8]) -> Result<(), Refusal>
-    ensures { OwnerCalled (LentOwner.registers registers.now) state.old state.new (number_of result) }
+    ensures called { OwnerCalled (LentOwner.registers registers.now) state.old state.new (number_of result) }
+    ensures told { IsOk result ↔ (number_of result ≡ 0) }
 {
     let meter = meter_for(
         state,
@@ -61,7 +64,8 @@ pub fn give_registers(state: &mut [u8], registers: &[u8]) -> Result<(), Refusal>
 
 // The value of a register is set. Refusals 101, 102, 3 and 17.
 pub fn set_value(state: &mut [u8], name: &[u8], value: u32) -> Result<(), Refusal>
-    ensures { OwnerCalled (LentOwner.value name.now value) state.old state.new (number_of result) }
+    ensures called { OwnerCalled (LentOwner.value name.now value) state.old state.new (number_of result) }
+    ensures told { IsOk result ↔ (number_of result ≡ 0) }
 {
     let meter = meter_for(
         state,
@@ -74,7 +78,8 @@ pub fn set_value(state: &mut [u8], name: &[u8], value: u32) -> Result<(), Refusa
 
 // Columns are set. Refusals 101, 102, 3 and 18.
 pub fn set_columns(state: &mut [u8], names: &[u8]) -> Result<(), Refusal>
-    ensures { OwnerCalled (LentOwner.columns names.now) state.old state.new (number_of result) }
+    ensures called { OwnerCalled (LentOwner.columns names.now) state.old state.new (number_of result) }
+    ensures told { IsOk result ↔ (number_of result ≡ 0) }
 {
     let meter = meter_for(state, image::are_names(names), ArgumentFault::ColumnsBad)?;
     let items = image::names_in(names);
@@ -83,15 +88,18 @@ pub fn set_columns(state: &mut [u8], names: &[u8]) -> Result<(), Refusal>
 
 // The capture period is set. Refusals 101, 102, 3 and 15.
 pub fn set_period(state: &mut [u8], period: u32) -> Result<(), Refusal>
-    ensures { OwnerCalled (LentOwner.period period) state.old state.new (number_of result) }
+    ensures called { OwnerCalled (LentOwner.period period) state.old state.new (number_of result) }
+    ensures told { IsOk result ↔ (number_of result ≡ 0) }
 {
-    let meter = image::read_image(state)?;
+    image::status_of(state)?;
+    let meter = image::meter_in(state);
     end(meter.set_period(period), state)
 }
 
 // The clock moves on. Refusals 101, 102, 3 and 14.
 pub fn tick(state: &mut [u8], clock: &[u8]) -> Result<(), Refusal>
-    ensures { OwnerCalled (LentOwner.clock clock.now) state.old state.new (number_of result) }
+    ensures called { OwnerCalled (LentOwner.clock clock.now) state.old state.new (number_of result) }
+    ensures told { IsOk result ↔ (number_of result ≡ 0) }
 {
     let meter = meter_for(
         state,
@@ -104,7 +112,8 @@ pub fn tick(state: &mut [u8], clock: &[u8]) -> Result<(), Refusal>
 
 // The P5 flag is set by 1 and cleared by 0. Refusals 101, 102, 3 and 104.
 pub fn set_p5(state: &mut [u8], held: u32) -> Result<(), Refusal>
-    ensures { OwnerCalled (LentOwner.p5 held) state.old state.new (number_of result) }
+    ensures called { OwnerCalled (LentOwner.p5 held) state.old state.new (number_of result) }
+    ensures told { IsOk result ↔ (number_of result ≡ 0) }
 {
     let meter = meter_for(state, held < 2, ArgumentFault::WrongArgument)?;
     end(meter.set_p5(held == 1), state)
@@ -112,15 +121,18 @@ pub fn set_p5(state: &mut [u8], held: u32) -> Result<(), Refusal>
 
 // Power-up. Refusals 101, 102 and 3.
 pub fn power_up(state: &mut [u8]) -> Result<(), Refusal>
-    ensures { OwnerCalled LentOwner.powered state.old state.new (number_of result) }
+    ensures called { OwnerCalled LentOwner.powered state.old state.new (number_of result) }
+    ensures told { IsOk result ↔ (number_of result ≡ 0) }
 {
-    let meter = image::read_image(state)?;
+    image::status_of(state)?;
+    let meter = image::meter_in(state);
     end(meter.power_up(), state)
 }
 
 // The end of an owner's call: the changed meter in the buffer where it is accepted.
 fn end(changed: Changed, state: &mut [u8]) -> Result<(), Refusal>
-    ensures { Ends changed state.old state.new (number_of result) }
+    ensures called { Ends changed state.old state.new (number_of result) }
+    ensures told { IsOk result ↔ (number_of result ≡ 0) }
 {
     if changed.refusal != 0 {
         return Err(Refusal::Meter(changed.refusal));

@@ -79,7 +79,8 @@ pub fn number_of(answer: Result<(), Refusal>) -> u8
 pub fn meter_for(state: &[u8], is_taken: bool, fault: ArgumentFault) -> Result<Meter, Refusal>
     ensures { MeterFor state.now (fault_of is_taken (argument_number fault)) result }
 {
-    let meter = image::read_image(state)?;
+    image::status_of(state)?;
+    let meter = image::meter_in(state);
     if is_taken {
         return Ok(meter);
     }

@@ -75,7 +75,11 @@ pub fn made(meter: Meter, line: &[u8], reply: &mut [u8]) -> Result<Done, Unread>
 pub fn explained(meter: Meter, line: &[u8]) -> Result<Option<Explained>, Unread> {
     let mut fields = Fields::new(line);
     match fields.verb()? {
-        Verb::Frame | Verb::Explain => Ok(Some(explain(meter, &read_given(fields)?))),
+        Verb::Frame | Verb::Explain => {
+            let mut given = Given::new();
+            given.read(fields)?;
+            Ok(Some(explain(meter, &given)))
+        }
         _ => Ok(None),
     }
 }
@@ -154,24 +158,30 @@ fn power(meter: Meter, fields: Fields) -> Result<Done, Unread> {
     Ok(changed(meter.power_up()))
 }
 
-fn read_given(mut fields: Fields) -> Result<Given, Unread> {
-    let guk = fields.byte_string()?;
-    let ak = fields.byte_string()?;
-    let challenge = fields.byte_string()?;
-    let room = fields.decimal(b' ', MOST as u32)? as usize;
-    let frame = fields.byte_string()?;
-    fields.end()?;
-    Ok(Given {
-        guk,
-        ak,
-        challenge,
-        room,
-        frame,
-    })
+impl Given {
+    fn new() -> Given {
+        Given {
+            guk: ByteString::new(),
+            ak: ByteString::new(),
+            challenge: ByteString::new(),
+            room: 0,
+            frame: ByteString::new(),
+        }
+    }
+
+    fn read(&mut self, mut fields: Fields) -> Result<(), Unread> {
+        fields.byte_string(&mut self.guk)?;
+        fields.byte_string(&mut self.ak)?;
+        fields.byte_string(&mut self.challenge)?;
+        self.room = fields.decimal(b' ', MOST as u32)? as usize;
+        fields.byte_string(&mut self.frame)?;
+        fields.end()
+    }
 }
 
 fn frame(meter: Meter, fields: Fields, reply: &mut [u8]) -> Result<Done, Unread> {
-    let g = read_given(fields)?;
+    let mut g = Given::new();
+    g.read(fields)?;
     Ok(receive(
         meter,
         g.frame.as_slice(),
@@ -199,7 +209,9 @@ pub fn receive(
 
 // What is told of a frame call; the meter stays as it is.
 fn explanation(meter: Meter, fields: Fields) -> Result<Done, Unread> {
-    let explained = explain(meter, &read_given(fields)?);
+    let mut given = Given::new();
+    given.read(fields)?;
+    let explained = explain(meter, &given);
     Ok(Done {
         kind: Kind::Explanation(explained),
         meter,
@@ -220,7 +232,8 @@ fn explain(meter: Meter, g: &Given) -> Explained {
 }
 
 fn take_image(meter: Meter, mut fields: Fields) -> Result<Done, Unread> {
-    let bytes = fields.byte_string()?;
+    let mut bytes = ByteString::new();
+    fields.byte_string(&mut bytes)?;
     fields.end()?;
     Ok(match image::read_image(bytes.as_slice()) {
         Ok(read) => replaced(0, read),

@@ -21,6 +21,16 @@ pub struct ByteString {
 }
 
 impl ByteString {
+    // Of no bytes.
+    pub fn new() -> ByteString
+        ensures { result.count ≡ 0 }
+    {
+        ByteString {
+            bytes: [0; MOST],
+            count: 0,
+        }
+    }
+
     pub fn as_slice(&self) -> &[u8]
         ensures { result.now ≡ take self.now.count self.now.bytes }
     {
@@ -99,17 +109,18 @@ impl<'a> Fields<'a> {
         Ok(bytes)
     }
 
-    // A space, and a byte string: `-`, or bytes.
-    pub fn byte_string(&mut self) -> Result<ByteString, Unread> {
+    // A space, and a byte string: `-`, or bytes. It is read where it is to stand, since a copy of its room costs more than reading it.
+    pub fn byte_string(&mut self, out: &mut ByteString) -> Result<(), Unread> {
         self.exactly(b' ')?;
-        let mut bytes = [0; MOST];
         if self.exactly(b'-').is_ok() {
-            return Ok(ByteString { bytes, count: 0 });
+            out.count = 0;
+            return Ok(());
         }
-        match self.digit_pairs(&mut bytes)? {
-            0 => Err(self.unread()),
-            count => Ok(ByteString { bytes, count }),
+        out.count = self.digit_pairs(&mut out.bytes)?;
+        if out.count == 0 {
+            return Err(self.unread());
         }
+        Ok(())
     }
 
     // Bytes of two digits each, up to a character that is no digit, and as many as `out` has at most. How many they are.

@@ -29,8 +29,10 @@ impl HeldLine {
     pub fn append(&mut self, more: &[u8])
         ensures { self.new.count ≡ min (self.old.count + length more.now) 32769 }
     {
-        for (place, c) in self.characters.iter_mut().skip(self.count).zip(more) {
-            *place = *c;
+        if let Some(room) = self.characters.get_mut(self.count..) {
+            for (place, c) in room.iter_mut().zip(more) {
+                *place = *c;
+            }
         }
         self.count = self.count.saturating_add(more.len()).min(LONGEST + 1);
     }

@@ -22,7 +22,7 @@ pub fn between(s: &[u8], from: usize, to: usize) -> &[u8] {
     after(first(s, to), from)
 }
 
-// Whether all bytes have this value.
+// Whether all bytes have this value. Every byte is looked at, without a branch at each: the processor does many at once.
 pub fn all_are(s: &[u8], b: u8) -> bool {
-    s.iter().all(|x| *x == b)
+    s.iter().fold(0, |differing, x| differing | (x ^ b)) == 0
 }

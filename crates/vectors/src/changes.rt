@@ -1,6 +1,4 @@
 // Messages with one bit changed, for each of their bits in turn. q, i, o: the lines Q, I and O, the last with an APDU for its frame.
-ghost use Rattle.std.specs.Prelude.{◌<◌, ◌≤◌, length};
-
 use crate::LONGEST;
 use std::io;
 use text::first;
@@ -13,7 +11,6 @@ pub fn places<F: Fn(&[u8]) -> bool>(
     m: &[u8],
     is_accepted: F,
 ) -> io::Result<()>
-    requires short { length m.now ≤ 300 }
     requires callable { F.IsAlwaysCallable is_accepted }
 {
     print!(printer; "accepted at")?;
@@ -35,8 +32,6 @@ pub fn places<F: Fn(&[u8]) -> bool>(
 
 // How many of the eight bits at a place may be changed, each by itself.
 fn accepted_at<F: Fn(&[u8]) -> bool>(m: &[u8], at: usize, is_accepted: F) -> usize
-    requires short { length m.now ≤ 300 }
-    requires inside { at < length m.now }
     requires callable { F.IsAlwaysCallable is_accepted }
 {
     BITS.iter()
@@ -44,12 +39,14 @@ fn accepted_at<F: Fn(&[u8]) -> bool>(m: &[u8], at: usize, is_accepted: F) -> usi
         .count()
 }
 
-fn changed(m: &[u8], at: usize, bit: u8) -> [u8; LONGEST]
-    requires short { length m.now ≤ 300 }
-    requires inside { at < length m.now }
-{
+// A message of more bytes than there is room for is cut there, and a place outside changes nothing.
+fn changed(m: &[u8], at: usize, bit: u8) -> [u8; LONGEST] {
     let mut room = [0u8; LONGEST];
-    room[..m.len()].copy_from_slice(m);
-    room[at] ^= bit;
+    for (place, byte) in room.iter_mut().zip(m) {
+        *place = *byte;
+    }
+    if let Some(byte) = room.get_mut(at) {
+        *byte ^= bit;
+    }
     room
 }

@@ -6,7 +6,7 @@ use Rattle.owner_calls.proofs.GivenLaws.{registers_given}
 use Rattle.owner_calls.proofs.CallLaws.{owner_called}
 use Rattle.owner_calls.proofs.give_registers.Goals as goal
 
-pub returns : goal.returns
-returns c =
+pub returns-clause-called : goal.returns-clause-called
+returns-clause-called c =
     owner_called _ _ (ap (λ (b : Bool). fault_of b 16) c.are_registers.ensures) c.in_ok-meter.ensures
-    (λ _. registers_given c.registers_in-items.ensures c.give_registers.ensures) c.end.ensures
+    (λ _. registers_given c.registers_in-items.ensures c.give_registers.ensures) c.end.ensures.called

@@ -1,7 +1,7 @@
 -- `owner_calls::power_up` meets its contract.
-use mathlib.Core.Path.{refl}
-use Rattle.owner_calls.proofs.CallLaws.{read_taken, owner_called}
+use mathlib.Core.Path.{refl, sym, ◌∙◌}
+use Rattle.owner_calls.proofs.CallLaws.{meter_taken, owner_called}
 use Rattle.owner_calls.proofs.power_up.Goals as goal
 
-pub returns : goal.returns
-returns c = owner_called _ _ refl (read_taken _ _ c.in_ok-meter.ensures) (λ _. c.power_up.ensures.owned) c.end.ensures
+pub returns-clause-called : goal.returns-clause-called
+returns-clause-called c = owner_called _ _ refl (meter_taken _ (sym c.status_of.ensures ∙ c.in_ok-status_of.was) c.meter_in-meter.ensures refl) (λ _. c.power_up.ensures.owned) c.end.ensures.called

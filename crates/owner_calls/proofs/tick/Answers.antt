@@ -3,7 +3,7 @@ use mathlib.Core.Path.{refl}
 use Rattle.owner_calls.proofs.CallLaws.{owner_called, taken_whole}
 use Rattle.owner_calls.proofs.tick.Goals as goal
 
-pub returns : goal.returns
-returns c =
+pub returns-clause-called : goal.returns-clause-called
+returns-clause-called c =
     owner_called _ _ refl c.in_ok-meter.ensures
-    (λ g. rw (c.array_at-bytes.ensures, taken_whole 12 14 c.args.clock.now refl g) at c.tick.ensures) c.end.ensures
+    (λ g. rw (c.array_at-bytes.ensures, taken_whole 12 14 c.args.clock.now refl g) at c.tick.ensures) c.end.ensures.called

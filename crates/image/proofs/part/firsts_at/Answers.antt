@@ -1,14 +1,11 @@
--- `image::part::firsts_at` meets its contract: the first places are read.
-use native.Mathlib.Omega.{arith}
-use Rattle.std.proofs.Common.{◌+◌, ◌*◌, ◌<◌, rules}
-use Rattle.image.specs.Codec.{Got}
-use Rattle.image.proofs.LoopLaws.{from_calls, firsts_by}
+-- `image::part::firsts_at` meets its contract: as many places as the array has.
+use mathlib.Core.Path.{subst}
+use Prim.Native.Nat.{ℕ}
+use lib.ListN.{length-replicate}
+use Rattle.image.specs.Lists.{Firsts}
 use Rattle.image.proofs.part.firsts_at.Goals as goal
 
 pub returns : goal.returns
 returns g c =
     let a = c.args in
-    let t = g.T.Part in
-    let r = c.from_fn.ensures.items in
-    firsts_by g.met.T.Part.sized r.long c.requires.fits
-    (λ i h. from_calls _ (λ k y. k < a.count → Got t.part a.s.now (a.at + k * t.SIZE) y) (λ k y q d. search rules) c.from_fn.result _ r i (omega (arith, c.requires.fits)) h)
+    subst (λ (k : ℕ). Firsts g.T.Part.part k a.count a.s.now a.at c.fill.new.items) (length-replicate g.row.N a.blank) c.fill.ensures
