@@ -1,5 +1,7 @@
 // A session: the lines of an input, each held to its end and given to a worker. `script` answers each; `diagnose` keeps what is
 // told of the last frame, and stops at a line that it cannot take.
+ghost use Rattle.std.specs.Prelude.{◌≤◌, length};
+
 use script_text::fields::Unread;
 use script_text::lines::HeldLine;
 use std::io::Read;
@@ -56,15 +58,15 @@ pub fn run<R: Read, W: Worker>(input: &mut R, worker: &mut W) -> Result<(), Fail
 impl Lines {
     // The bytes of a read, line by line. What stands after the last line end is held.
     fn feed<W: Worker>(&mut self, worker: &mut W, input: &[u8]) -> Result<(), W::Stop> {
-        for part in input.split_inclusive(|b| *b == b'\n') {
-            match part.strip_suffix(b"\n") {
-                Some(line) => {
-                    self.held.append(line);
-                    self.end_line(worker)?;
-                }
-                None => self.held.append(part),
-            }
+        let mut at: usize = 0;
+        let mut end = end_from(input, 0);
+        while end < input.len() {
+            self.held.append(&input[at..end]);
+            self.end_line(worker)?;
+            at = end + 1;
+            end = end_from(input, at);
         }
+        self.held.append(&input[at..end]);
         worker.pause()
     }
 
@@ -82,4 +84,18 @@ impl Lines {
         self.end_line(worker)?;
         worker.pause()
     }
+}
+
+// The place of the next line end, or the end of the bytes. Over the whole slice, by places: the compiler looks at many bytes at once
+// then, and not where a part of the slice is searched (`split_inclusive`, `position`).
+fn end_from(s: &[u8], from: usize) -> usize
+    requires { from ≤ length s.now }
+    ensures { (from ≤ result) × (result ≤ length s.now) }
+{
+    for i in from..s.len() {
+        if s[i] == b'\n' {
+            return i;
+        }
+    }
+    s.len()
 }
