@@ -7,6 +7,8 @@ mod check;
 mod lists;
 mod part;
 mod read;
+#[cfg(test)]
+mod tests;
 
 ghost use Rattle.std.specs.Prelude.{◌≡◌};
 ghost use Rattle.image.specs.Image.{blank_meter, fault_number, meter_in, read_image, status_of};
@@ -75,12 +77,12 @@ pub fn meter_in(s: &[u8]) -> Meter
     if s.len() != SIZE {
         return blank_meter();
     }
-    Meter::read(s, 1)
+    Meter::read_at(s, 1)
 }
 
 #[inline(never)]
 fn blank_meter() -> Meter
     ensures { result ≡ blank_meter }
 {
-    Meter::read(&[0; SIZE - 1], 0)
+    Meter::read_at(&[0; SIZE - 1], 0)
 }

@@ -1,10 +1,11 @@
-// The parts of a meter, read: of each its layout, how many bytes it takes, and its fields, each at its place.
+// The parts of a meter, read: of each its layout, how many bytes it takes, and its fields, each at its place. The line of `read` stands
+// in each impl: one function over any part would need the very impl that calls it, which the check does not take.
 ghost use Rattle.std.specs.Prelude.{◌≡◌, refl};
 ghost use Rattle.image.specs.Codec.{byte, flag, Got, number, phase, picking_kind, progress, which};
 ghost use Rattle.image.specs.Layout.{body_part, cipher_party_part, clock_part, columns_part, counters_part, line_part, meter_part, name_part, party_part, picking_part, register_part, registers_part, row_part, rows_part, transfer_part};
 ghost use Rattle.image.specs.Sizes.{sizes};
 
-use crate::part::{Part, Readable, each_at, held_at};
+use crate::part::{Part, Readable, bytes_or, each_at, held_at};
 use body::BodyState;
 use line::{CipherParty, LineState, Party, Phase};
 use meter::Meter;
@@ -19,14 +20,18 @@ impl Part for Meter {
 
     const SIZE: usize = 1765;
 
+    fn read(s: &[u8], at: usize) -> Meter {
+        Meter::read_at(bytes_or(s, at, &[0; Meter::SIZE]), 0)
+    }
+
     ghost sized = { sizes.meter_size };
 }
 
 impl Readable for Meter {
-    fn read(s: &[u8], at: usize) -> Meter {
+    fn read_at(s: &[u8], at: usize) -> Meter {
         Meter {
-            line: LineState::read(s, at),
-            body: BodyState::read(s, at + LineState::SIZE),
+            line: LineState::read_at(s, at),
+            body: BodyState::read_at(s, at + LineState::SIZE),
         }
     }
 }
@@ -38,17 +43,21 @@ impl Part for LineState {
 
     const SIZE: usize = 75;
 
+    fn read(s: &[u8], at: usize) -> LineState {
+        LineState::read_at(bytes_or(s, at, &[0; LineState::SIZE]), 0)
+    }
+
     ghost sized = { sizes.line_size };
 }
 
 impl Readable for LineState {
-    fn read(s: &[u8], at: usize) -> LineState {
+    fn read_at(s: &[u8], at: usize) -> LineState {
         let title = wire::array_at(s, at);
         let a = at + 8;
-        let verification = Party::read(s, a);
+        let verification = Party::read_at(s, a);
         let b = a + Party::SIZE;
-        let han = CipherParty::read(s, b);
-        let p5 = bool::read(s, b + CipherParty::SIZE);
+        let han = CipherParty::read_at(s, b);
+        let p5 = bool::read_at(s, b + CipherParty::SIZE);
         LineState {
             title,
             verification,
@@ -65,16 +74,20 @@ impl Part for Party {
 
     const SIZE: usize = 13;
 
+    fn read(s: &[u8], at: usize) -> Party {
+        Party::read_at(bytes_or(s, at, &[0; Party::SIZE]), 0)
+    }
+
     ghost sized = { sizes.party_size };
 }
 
 impl Readable for Party {
-    fn read(s: &[u8], at: usize) -> Party {
+    fn read_at(s: &[u8], at: usize) -> Party {
         let title = wire::array_at(s, at);
         let a = at + 8;
-        let up = bool::read(s, a);
+        let up = bool::read_at(s, a);
         let b = a + 1;
-        let phase = Phase::read(s, b);
+        let phase = Phase::read_at(s, b);
         let agreed = wire::array_at(s, b + 1);
         Party {
             title,
@@ -92,19 +105,23 @@ impl Part for CipherParty {
 
     const SIZE: usize = 53;
 
+    fn read(s: &[u8], at: usize) -> CipherParty {
+        CipherParty::read_at(bytes_or(s, at, &[0; CipherParty::SIZE]), 0)
+    }
+
     ghost sized = { sizes.cipher_party_size };
 }
 
 impl Readable for CipherParty {
-    fn read(s: &[u8], at: usize) -> CipherParty {
-        let party = Party::read(s, at);
+    fn read_at(s: &[u8], at: usize) -> CipherParty {
+        let party = Party::read_at(s, at);
         let a = at + Party::SIZE;
         let key = wire::array_at(s, a);
         let b = a + 16;
         let client = wire::array_at(s, b);
         let c = b + 8;
         let meter = wire::array_at(s, c);
-        let counters = Counters::read(s, c + 8);
+        let counters = Counters::read_at(s, c + 8);
         CipherParty {
             party,
             key,
@@ -122,13 +139,17 @@ impl Part for Counters {
 
     const SIZE: usize = 8;
 
+    fn read(s: &[u8], at: usize) -> Counters {
+        Counters::read_at(bytes_or(s, at, &[0; Counters::SIZE]), 0)
+    }
+
     ghost sized = { sizes.counters_size };
 }
 
 impl Readable for Counters {
-    fn read(s: &[u8], at: usize) -> Counters {
-        let accepted = u32::read(s, at);
-        let sent = u32::read(s, at + 4);
+    fn read_at(s: &[u8], at: usize) -> Counters {
+        let accepted = u32::read_at(s, at);
+        let sent = u32::read_at(s, at + 4);
         Counters { accepted, sent }
     }
 }
@@ -140,26 +161,30 @@ impl Part for BodyState {
 
     const SIZE: usize = 1690;
 
+    fn read(s: &[u8], at: usize) -> BodyState {
+        BodyState::read_at(bytes_or(s, at, &[0; BodyState::SIZE]), 0)
+    }
+
     ghost sized = { sizes.body_size };
 }
 
 impl Readable for BodyState {
     #[inline(never)]
-    fn read(s: &[u8], at: usize) -> BodyState {
+    fn read_at(s: &[u8], at: usize) -> BodyState {
         let device = wire::array_at(s, at);
         let a = at + 16;
-        let clock = Clock::read(s, a);
+        let clock = Clock::read_at(s, a);
         let b = a + Clock::SIZE;
-        let period = u32::read(s, b);
+        let period = u32::read_at(s, b);
         let c = b + 4;
-        let number = u16::read(s, c);
+        let number = u16::read_at(s, c);
         let d = c + 2;
-        let registers = Registers::read(s, d);
+        let registers = Registers::read_at(s, d);
         let e = d + Registers::SIZE;
-        let columns = Columns::read(s, e);
+        let columns = Columns::read_at(s, e);
         let f = e + Columns::SIZE;
-        let rows = Rows::read(s, f);
-        let transfer = Transfer::read(s, f + Rows::SIZE);
+        let rows = Rows::read_at(s, f);
+        let transfer = Transfer::read_at(s, f + Rows::SIZE);
         BodyState {
             device,
             clock,
@@ -180,11 +205,15 @@ impl Part for Name {
 
     const SIZE: usize = 6;
 
+    fn read(s: &[u8], at: usize) -> Name {
+        Name::read_at(bytes_or(s, at, &[0; Name::SIZE]), 0)
+    }
+
     ghost sized = { sizes.name_size };
 }
 
 impl Readable for Name {
-    fn read(s: &[u8], at: usize) -> Name {
+    fn read_at(s: &[u8], at: usize) -> Name {
         Name {
             bytes: wire::array_at(s, at),
         }
@@ -198,11 +227,15 @@ impl Part for Clock {
 
     const SIZE: usize = 12;
 
+    fn read(s: &[u8], at: usize) -> Clock {
+        Clock::read_at(bytes_or(s, at, &[0; Clock::SIZE]), 0)
+    }
+
     ghost sized = { sizes.clock_size };
 }
 
 impl Readable for Clock {
-    fn read(s: &[u8], at: usize) -> Clock {
+    fn read_at(s: &[u8], at: usize) -> Clock {
         Clock {
             bytes: wire::array_at(s, at),
         }
@@ -216,11 +249,15 @@ impl Part for Registers {
 
     const SIZE: usize = 216;
 
+    fn read(s: &[u8], at: usize) -> Registers {
+        Registers::read_at(bytes_or(s, at, &[0; Registers::SIZE]), 0)
+    }
+
     ghost sized = { sizes.registers_size };
 }
 
 impl Readable for Registers {
-    fn read(s: &[u8], at: usize) -> Registers {
+    fn read_at(s: &[u8], at: usize) -> Registers {
         held_at(s, at, store::BLANK_REGISTER)
     }
 }
@@ -232,19 +269,23 @@ impl Part for Register {
 
     const SIZE: usize = 13;
 
+    fn read(s: &[u8], at: usize) -> Register {
+        Register::read_at(bytes_or(s, at, &[0; Register::SIZE]), 0)
+    }
+
     ghost sized = { sizes.register_size };
 }
 
 impl Readable for Register {
-    fn read(s: &[u8], at: usize) -> Register {
-        let name = Name::read(s, at);
+    fn read_at(s: &[u8], at: usize) -> Register {
+        let name = Name::read_at(s, at);
         let a = at + Name::SIZE;
-        let readable = bool::read(s, a);
+        let readable = bool::read_at(s, a);
         let b = a + 1;
-        let scaler = u8::read(s, b);
+        let scaler = u8::read_at(s, b);
         let c = b + 1;
-        let unit = u8::read(s, c);
-        let value = u32::read(s, c + 1);
+        let unit = u8::read_at(s, c);
+        let value = u32::read_at(s, c + 1);
         Register {
             name,
             readable,
@@ -262,11 +303,15 @@ impl Part for Columns {
 
     const SIZE: usize = 104;
 
+    fn read(s: &[u8], at: usize) -> Columns {
+        Columns::read_at(bytes_or(s, at, &[0; Columns::SIZE]), 0)
+    }
+
     ghost sized = { sizes.columns_size };
 }
 
 impl Readable for Columns {
-    fn read(s: &[u8], at: usize) -> Columns {
+    fn read_at(s: &[u8], at: usize) -> Columns {
         held_at(s, at, store::BLANK_NAME)
     }
 }
@@ -278,11 +323,15 @@ impl Part for Rows {
 
     const SIZE: usize = 1298;
 
+    fn read(s: &[u8], at: usize) -> Rows {
+        Rows::read_at(bytes_or(s, at, &[0; Rows::SIZE]), 0)
+    }
+
     ghost sized = { sizes.rows_size };
 }
 
 impl Readable for Rows {
-    fn read(s: &[u8], at: usize) -> Rows {
+    fn read_at(s: &[u8], at: usize) -> Rows {
         held_at(s, at, store::BLANK_ROW)
     }
 }
@@ -294,16 +343,20 @@ impl Part for Row {
 
     const SIZE: usize = 86;
 
+    fn read(s: &[u8], at: usize) -> Row {
+        Row::read_at(bytes_or(s, at, &[0; Row::SIZE]), 0)
+    }
+
     ghost sized = { sizes.row_size };
 }
 
 impl Readable for Row {
-    fn read(s: &[u8], at: usize) -> Row {
-        let number = u16::read(s, at);
+    fn read_at(s: &[u8], at: usize) -> Row {
+        let number = u16::read_at(s, at);
         let a = at + 2;
-        let clock = Clock::read(s, a);
+        let clock = Clock::read_at(s, a);
         let b = a + Clock::SIZE;
-        let count = usize::read(s, b);
+        let count = usize::read_at(s, b);
         let cells = each_at(s, b + 8, 0);
         Row {
             number,
@@ -321,15 +374,19 @@ impl Part for Transfer {
 
     const SIZE: usize = 38;
 
+    fn read(s: &[u8], at: usize) -> Transfer {
+        Transfer::read_at(bytes_or(s, at, &[0; Transfer::SIZE]), 0)
+    }
+
     ghost sized = { sizes.transfer_size };
 }
 
 impl Readable for Transfer {
-    fn read(s: &[u8], at: usize) -> Transfer {
-        let progress = Progress::read(s, at);
+    fn read_at(s: &[u8], at: usize) -> Transfer {
+        let progress = Progress::read_at(s, at);
         let a = at + 1;
-        let picking = Picking::read(s, a);
-        let block = u32::read(s, a + Picking::SIZE);
+        let picking = Picking::read_at(s, a);
+        let block = u32::read_at(s, a + Picking::SIZE);
         Transfer {
             progress,
             picking,
@@ -345,19 +402,23 @@ impl Part for Picking {
 
     const SIZE: usize = 33;
 
+    fn read(s: &[u8], at: usize) -> Picking {
+        Picking::read_at(bytes_or(s, at, &[0; Picking::SIZE]), 0)
+    }
+
     ghost sized = { sizes.picking_size };
 }
 
 impl Readable for Picking {
-    fn read(s: &[u8], at: usize) -> Picking {
-        let kind = PickingKind::read(s, at);
+    fn read_at(s: &[u8], at: usize) -> Picking {
+        let kind = PickingKind::read_at(s, at);
         let a = at + 1;
-        let after = Clock::read(s, a);
+        let after = Clock::read_at(s, a);
         let b = a + Clock::SIZE;
-        let until = Clock::read(s, b);
+        let until = Clock::read_at(s, b);
         let c = b + Clock::SIZE;
-        let from = u32::read(s, c);
-        let to = u32::read(s, c + 4);
+        let from = u32::read_at(s, c);
+        let to = u32::read_at(s, c + 4);
         Picking {
             kind,
             after,
@@ -375,11 +436,15 @@ impl Part for bool {
 
     const SIZE: usize = 1;
 
+    fn read(s: &[u8], at: usize) -> bool {
+        bool::read_at(bytes_or(s, at, &[0; bool::SIZE]), 0)
+    }
+
     ghost sized = { sizes.flag_size };
 }
 
 impl Readable for bool {
-    fn read(s: &[u8], at: usize) -> bool {
+    fn read_at(s: &[u8], at: usize) -> bool {
         s[at] == 1
     }
 }
@@ -391,11 +456,15 @@ impl Part for Phase {
 
     const SIZE: usize = 1;
 
+    fn read(s: &[u8], at: usize) -> Phase {
+        Phase::read_at(bytes_or(s, at, &[0; Phase::SIZE]), 0)
+    }
+
     ghost sized = { sizes.phase_size };
 }
 
 impl Readable for Phase {
-    fn read(s: &[u8], at: usize) -> Phase {
+    fn read_at(s: &[u8], at: usize) -> Phase {
         one_of(s[at], Phase::Idle, Phase::Pending, Phase::Associated)
     }
 }
@@ -407,11 +476,15 @@ impl Part for Progress {
 
     const SIZE: usize = 1;
 
+    fn read(s: &[u8], at: usize) -> Progress {
+        Progress::read_at(bytes_or(s, at, &[0; Progress::SIZE]), 0)
+    }
+
     ghost sized = { sizes.progress_size };
 }
 
 impl Readable for Progress {
-    fn read(s: &[u8], at: usize) -> Progress {
+    fn read_at(s: &[u8], at: usize) -> Progress {
         one_of(s[at], Progress::Idle, Progress::Running, Progress::Ended)
     }
 }
@@ -423,11 +496,15 @@ impl Part for PickingKind {
 
     const SIZE: usize = 1;
 
+    fn read(s: &[u8], at: usize) -> PickingKind {
+        PickingKind::read_at(bytes_or(s, at, &[0; PickingKind::SIZE]), 0)
+    }
+
     ghost sized = { sizes.kind_size };
 }
 
 impl Readable for PickingKind {
-    fn read(s: &[u8], at: usize) -> PickingKind {
+    fn read_at(s: &[u8], at: usize) -> PickingKind {
         one_of(
             s[at],
             PickingKind::Whole,
@@ -444,11 +521,15 @@ impl Part for u8 {
 
     const SIZE: usize = 1;
 
+    fn read(s: &[u8], at: usize) -> u8 {
+        u8::read_at(bytes_or(s, at, &[0; u8::SIZE]), 0)
+    }
+
     ghost sized = { refl };
 }
 
 impl Readable for u8 {
-    fn read(s: &[u8], at: usize) -> u8 {
+    fn read_at(s: &[u8], at: usize) -> u8 {
         s[at]
     }
 }
@@ -460,11 +541,15 @@ impl Part for u16 {
 
     const SIZE: usize = 2;
 
+    fn read(s: &[u8], at: usize) -> u16 {
+        u16::read_at(bytes_or(s, at, &[0; u16::SIZE]), 0)
+    }
+
     ghost sized = { refl };
 }
 
 impl Readable for u16 {
-    fn read(s: &[u8], at: usize) -> u16 {
+    fn read_at(s: &[u8], at: usize) -> u16 {
         match wire::number_at::<2>(s, at) {
             Some((value, _)) => value as u16,
             None => 0,
@@ -479,11 +564,15 @@ impl Part for u32 {
 
     const SIZE: usize = 4;
 
+    fn read(s: &[u8], at: usize) -> u32 {
+        u32::read_at(bytes_or(s, at, &[0; u32::SIZE]), 0)
+    }
+
     ghost sized = { refl };
 }
 
 impl Readable for u32 {
-    fn read(s: &[u8], at: usize) -> u32 {
+    fn read_at(s: &[u8], at: usize) -> u32 {
         match wire::number_at::<4>(s, at) {
             Some((value, _)) => value,
             None => 0,
@@ -498,13 +587,17 @@ impl Part for usize {
 
     const SIZE: usize = 8;
 
+    fn read(s: &[u8], at: usize) -> usize {
+        usize::read_at(bytes_or(s, at, &[0; usize::SIZE]), 0)
+    }
+
     ghost sized = { refl };
 }
 
 impl Readable for usize {
-    fn read(s: &[u8], at: usize) -> usize {
-        let high = u32::read(s, at) as usize;
-        let low = u32::read(s, at + 4) as usize;
+    fn read_at(s: &[u8], at: usize) -> usize {
+        let high = u32::read_at(s, at) as usize;
+        let low = u32::read_at(s, at + 4) as usize;
         high * 4294967296 + low
     }
 }

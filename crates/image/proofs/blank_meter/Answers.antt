@@ -4,4 +4,4 @@ use Rattle.image.proofs.ImageLaws.{blank_is}
 use Rattle.image.proofs.blank_meter.Goals as goal
 
 pub returns : goal.returns
-returns c = c.read.ensures.is ∙ sym blank_is
+returns c = c.read_at.ensures.is ∙ sym blank_is

@@ -11,5 +11,5 @@ pub returns : goal.returns
 returns g c =
     let a = c.args in
     let t = g.T.Part in
-    taken_by t.part a.count a.at a.s.now g.T.Part.sized
+    taken_by t.part a.count a.at a.s.now g.met.T.Part.sized
     (cases_from_all _ _ c.all.result (λ i. t.part.taken (drop (a.at + i * t.SIZE) a.s.now) ≡ true) (λ i. t.part.taken (drop (a.at + i * t.SIZE) a.s.now) ≡ false) c.all.ensures.ran (YieldsList-from_range 0 a.count a.count refl (search rules)) (λ x q d. search rules) (λ x q d. search rules))

@@ -4,4 +4,4 @@ use Rattle.image.proofs.CodecLaws.{got_both, got_fields}
 use Rattle.image.proofs.part.held_at.Goals as goal
 
 pub returns : goal.returns
-returns g c = got_fields _ _ (got_both c.read.ensures refl c.each_at.ensures)
+returns g c = got_fields _ _ (got_both c.read_at.ensures refl c.each_at.ensures)

@@ -5,7 +5,7 @@ use Rattle.image_write.proofs.parts.put_each.Goals as goal
 
 pub loop-item-init : goal.loop-item-init
 loop-item-init g c =
-    (rw g.T.Part.sized c.requires, putting_none c.told-items (omega (arith, c.requires)))
+    (rw g.met.T.Part.sized c.requires, putting_none c.told-items (omega (arith, c.requires)))
 
 pub loop-item-preserved : goal.loop-item-preserved
 loop-item-preserved g c =

@@ -1,8 +1,0 @@
--- `image::read::BoolReadable::read` meets its contract.
-use Rattle.image.specs.Codec.{flag}
-use Rattle.image.proofs.CodecLaws.{at_front}
-use Rattle.image.proofs.read.BoolReadable.read.Goals as goal
-
-pub returns : goal.returns
-unfolding flag
-returns c = let a = c.args in record { is = rw (at_front a.s.now a.at) }

@@ -1,7 +1,0 @@
--- `image::read::ColumnsReadable::read` meets its contract.
-use Rattle.image.specs.Layout.{columns_part}
-use Rattle.image.proofs.read.ColumnsReadable.read.Goals as goal
-
-pub returns : goal.returns
-unfolding columns_part
-returns c = c.held_at.ensures

@@ -1,8 +1,0 @@
--- `image::read::PhaseReadable::read` meets its contract.
-use Rattle.image.specs.Codec.{phase}
-use Rattle.image.proofs.CodecLaws.{at_front}
-use Rattle.image.proofs.read.PhaseReadable.read.Goals as goal
-
-pub returns : goal.returns
-unfolding phase
-returns c = let a = c.args in record { is = rw (at_front a.s.now a.at) c.one_of.ensures }

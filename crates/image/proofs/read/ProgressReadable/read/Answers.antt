@@ -1,8 +1,0 @@
--- `image::read::ProgressReadable::read` meets its contract.
-use Rattle.image.specs.Codec.{progress}
-use Rattle.image.proofs.CodecLaws.{at_front}
-use Rattle.image.proofs.read.ProgressReadable.read.Goals as goal
-
-pub returns : goal.returns
-unfolding progress
-returns c = let a = c.args in record { is = rw (at_front a.s.now a.at) c.one_of.ensures }

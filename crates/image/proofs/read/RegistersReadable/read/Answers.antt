@@ -1,7 +1,0 @@
--- `image::read::RegistersReadable::read` meets its contract.
-use Rattle.image.specs.Layout.{registers_part}
-use Rattle.image.proofs.read.RegistersReadable.read.Goals as goal
-
-pub returns : goal.returns
-unfolding registers_part
-returns c = c.held_at.ensures

@@ -1,7 +1,0 @@
--- `image::read::RowsReadable::read` meets its contract.
-use Rattle.image.specs.Layout.{rows_part}
-use Rattle.image.proofs.read.RowsReadable.read.Goals as goal
-
-pub returns : goal.returns
-unfolding rows_part
-returns c = c.held_at.ensures

@@ -1,7 +1,0 @@
--- `image::read::U8Readable::read` meets its contract.
-use mathlib.Core.Path.{sym}
-use Rattle.image.proofs.CodecLaws.{at_front}
-use Rattle.image.proofs.read.U8Readable.read.Goals as goal
-
-pub returns : goal.returns
-returns c = let a = c.args in record { is = sym (at_front a.s.now a.at) }
