@@ -7,8 +7,6 @@ mod check;
 mod lists;
 mod part;
 mod read;
-#[cfg(test)]
-mod tests;
 
 ghost use Rattle.std.specs.Prelude.{◌≡◌};
 ghost use Rattle.image.specs.Image.{blank_meter, fault_number, meter_in, read_image, status_of};

@@ -31,14 +31,8 @@ pub trait Readable: Part {
         ensures { Got Self.part s.now at result };
 }
 
-pub fn each_at<T: Readable, const N: usize>(s: &[u8], at: usize, blank: T) -> [T; N]
-    requires { at + N * T.SIZE ≤ length s.now }
-    ensures { Got (many N T.part) s.now at result }
-{
-    firsts_at(s, at, N, blank)
-}
-
-// The bytes from a place on, or the zeros that are lent where fewer than these stand there.
+// The bytes from a place on, or the zeros that are lent where fewer than these stand there. `enough` follows from the two before it,
+// and is what reading asks for.
 pub fn bytes_or<'a>(s: &'a [u8], at: usize, zeros: &'a [u8]) -> &'a [u8]
     ensures there { at + length zeros.now ≤ length s.now → result.now ≡ drop at s.now }
     ensures blank { length s.now < at + length zeros.now → result.now ≡ zeros.now }
@@ -48,6 +42,13 @@ pub fn bytes_or<'a>(s: &'a [u8], at: usize, zeros: &'a [u8]) -> &'a [u8]
         Some(rest) if zeros.len() <= rest.len() => rest,
         _ => zeros,
     }
+}
+
+pub fn each_at<T: Readable, const N: usize>(s: &[u8], at: usize, blank: T) -> [T; N]
+    requires { at + N * T.SIZE ≤ length s.now }
+    ensures { Got (many N T.part) s.now at result }
+{
+    firsts_at(s, at, N, blank)
 }
 
 // A count, and then as many parts as there are places.

@@ -3,6 +3,8 @@
 #![tactic(auto)]
 
 mod parts;
+#[cfg(test)]
+mod tests;
 
 ghost use Rattle.image_write.specs.Writing.{Writes};
 

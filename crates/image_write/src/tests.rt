@@ -1,5 +1,8 @@
-// Parts read as another crate reads them: of bytes made up by the tables of docs/IMAGE.md, at every kind of place.
-use crate::{Part, SIZE, VERSION, meter_in};
+// Parts of an image read from outside `image`: of bytes made up by the tables of docs/IMAGE.md, at every kind of place, and of what is
+// written here.
+use crate::write_image;
+use image::{Part, SIZE, VERSION, meter_in};
+use line::Party;
 use meter::Meter;
 use model::Register;
 use picks::{Progress, Transfer};
@@ -7,7 +10,7 @@ use picks::{Progress, Transfer};
 // Four other bytes, a register, one other byte.
 const LENT: [u8; 18] = [9, 9, 9, 9, 1, 0, 1, 8, 0, 255, 1, 253, 30, 0, 0, 1, 2, 9];
 
-// The last part of a kind that stands whole in the bytes, or one of zeros.
+// The last bytes as a part, for any kind of part.
 fn last<T: Part>(s: &[u8]) -> T {
     T::read(s, s.len().saturating_sub(T::SIZE))
 }
@@ -55,4 +58,16 @@ fn a_meter_is_read_behind_the_version(rt: HostRuntime) {
     assert!(rt; read.line.p5);
     assert_eq!(rt; meter_in(&image).body.period, read.body.period);
     assert_eq!(rt; Meter::read(&image, 2).body.period, 0);
+}
+
+#[test]
+fn what_is_written_is_read_part_by_part(rt: HostRuntime) {
+    let mut image = [0u8; SIZE];
+    let meter = Meter::new([1; 16], [2; 8], [3; 8], [4; 8])
+        .set_period(900)
+        .meter;
+    assert!(rt; write_image(meter, &mut image).is_ok());
+    assert_eq!(rt; u32::read(&image, 104), 900);
+    assert_eq!(rt; Party::read(&image, 9).title, [3; 8]);
+    assert_eq!(rt; last::<Meter>(&image).body.device, [1; 16]);
 }
